@@ -1,0 +1,4 @@
+pub mod Range
+pub mod Tables
+pub mod Tests
+pub mod Digits

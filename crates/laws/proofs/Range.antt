@@ -1,0 +1,20 @@
+-- Two functions that agree at every number below n, shown by one computation: the lists of their values are the same list.
+-- Assumes nothing.
+use mathlib.Core.Path.{_≡_, refl, ap, sym, subst, _∙_}
+use mathlib.Core.List.{List, [], _∷_}
+use Prim.Native.Nat.{ℕ, zero, suc, _+_, _<_}
+use native.Mathlib.Nat.{add-zero, zero-add, add-suc, suc-add, le-of-suc-le-suc, not-suc-le-zero}
+
+-- the values of f at i, i + 1, .., n of them
+unfoldable pub values : {A : Type 0} → (ℕ → A) → ℕ → ℕ → List A
+values f i zero = []
+values f i (suc n) = f i ∷ values f (suc i) n
+
+from : {A : Type 0} (f g : ℕ → A) (i n : ℕ) → values f i n ≡ values g i n → (k : ℕ) → k < n → f (i + k) ≡ g (i + k)
+unfolding values
+from f g i zero e k h = absurd (not-suc-le-zero h)
+from f g i (suc n) e zero h = rw add-zero (cc)
+from f g i (suc n) e (suc k) h = rw (add-suc, ← suc-add) (from f g (suc i) n (cc) k (le-of-suc-le-suc h))
+
+pub agree : {A : Type 0} (f g : ℕ → A) (n : ℕ) → values f 0 n ≡ values g 0 n → (k : ℕ) → k < n → f k ≡ g k
+agree f g n e k h = rw zero-add at (from f g 0 n e k h)

@@ -1,0 +1,7 @@
+-- The first where the test holds, else the second.
+-- Assumes nothing.
+use mathlib.Core.Bool.{Bool, true, false}
+
+abbrev pub choose : {A : Type 0} → Bool → A → A → A
+choose true a b = a
+choose false a b = b
