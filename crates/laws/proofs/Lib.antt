@@ -1,4 +1,5 @@
+pub mod Digits
+pub mod Padded
 pub mod Range
 pub mod Tables
 pub mod Tests
-pub mod Digits

@@ -12,8 +12,7 @@ mapped f [] a b k h = absurd (not-suc-le-zero h)
 mapped f (x ∷ xs) a b zero h = refl
 mapped f (x ∷ xs) a b (suc k) h = mapped f xs a b k (le-of-suc-le-suc h)
 
--- at every place, where the default is mapped too
-pub mapped-default : {A B : Type 0} (f : A → B) (l : List A) (a : A) (k : ℕ) → getD (map f l) k (f a) ≡ f (getD l k a)
-mapped-default f [] a k = refl
-mapped-default f (x ∷ xs) a zero = refl
-mapped-default f (x ∷ xs) a (suc k) = mapped-default f xs a k
+-- a table of rows, by row and column
+pub mapped-rows : {A B : Type 0} (f : A → B) (ls : List (List A)) (a : A) (b : B) (r c : ℕ) → r < length ls → c < length (getD ls r [])
+    → getD (getD (map (map f) ls) r []) c b ≡ f (getD (getD ls r []) c a)
+mapped-rows {B = B} f ls a b r c h k = ap (λ (l : List B). getD l c b) (mapped (map f) ls [] [] r h) ∙ mapped f (getD ls r []) a b c k

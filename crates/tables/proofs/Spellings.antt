@@ -1,0 +1,73 @@
+-- What antt computes of the names: how many there are, that none is longer than 12 bytes, and which are pairwise.
+-- Assumes nothing.
+use mathlib.Core.Path.{_≡_, refl, sym, ap, _∙_}
+use mathlib.Core.Bool.{Bool, true, false}
+use mathlib.Core.List.{List, [], _∷_, map}
+use mathlib.Core.Logic.{⊎-elim}
+use Prim.Native.Nat.{ℕ, zero, suc, max, _+_, _*_, _<_, _≤_}
+use Prim.Native.String.{String}
+use native.Mathlib.Nat.{le-max-left, le-max-right, le-trans}
+use native.Mathlib.Omega.{arith}
+use lib.ListN.{length, getD, List·getD-map, List·getD-eq-default}
+use lib.Dec.{T, ltb}
+use borrow.Author.Tests.{ltb-true, ltb-false}
+use Rattle.laws.proofs.Range.{values, agree-from}
+use Rattle.laws.proofs.Padded.{laid, laid-at}
+use Rattle.tables.specs.Names.{names, nameOf, codes, nameByte, pairwise}
+
+pub count : length names ≡ 346
+unfolding names
+count = refl
+
+-- a number past the names has none
+pub no-name : (m : ℕ) → 346 ≤ m → nameOf m ≡ ""
+unfolding nameOf
+no-name m h = List·getD-eq-default names "" (rw count h)
+
+longest : List String → ℕ
+longest [] = 0
+longest (x ∷ xs) = max (length (codes x)) (longest xs)
+
+within : (xs : List String) (m : ℕ) → length (codes (getD xs m "")) ≤ longest xs
+unfolding longest codes
+within [] m = omega arith
+within (x ∷ xs) zero = le-max-left _ _
+within (x ∷ xs) (suc m) = le-trans (within xs m) (le-max-right _ _)
+
+twelve : longest names ≡ 12
+unfolding names codes longest
+twelve = refl
+
+pub short : (m : ℕ) → length (codes (nameOf m)) ≤ 12
+unfolding nameOf
+short m = rw twelve at (within names m)
+
+-- the table of bytes has each byte of each name
+pub laid-byte : (m j : ℕ) → m < 346 → j < 12 → getD (laid 32 12 (map codes names)) (m * 12 + j) 0 ≡ nameByte m j
+unfolding nameByte nameOf codes names
+laid-byte m j k h = laid-at 32 12 (map codes names) m j k h ∙ ap (λ (l : List ℕ). getD l j 32) (List·getD-map codes names m "")
+
+pub past-byte : (m j : ℕ) → 12 ≤ j → 32 ≡ nameByte m j
+unfolding nameByte
+past-byte m j h = sym (List·getD-eq-default (codes (nameOf m)) 32 (le-trans (short m) h))
+
+pub no-byte : (m j : ℕ) → 346 ≤ m → 32 ≡ nameByte m j
+unfolding nameByte codes
+no-byte m j h = sym (ap (λ (s : String). getD (codes s) j 32) (no-name m h))
+
+-- the numbers from lo on, n of them, are all pairwise or none is
+pub stretch : (b : Bool) (lo n : ℕ) → values (λ (m : ℕ). b) lo n ≡ values (λ (m : ℕ). pairwise (nameOf m)) lo n → (m : ℕ) → lo ≤ m → m < lo + n → b ≡ pairwise (nameOf m)
+stretch b lo n e m h k = agree-from (λ (m : ℕ). b) (λ (m : ℕ). pairwise (nameOf m)) lo n e m h k
+
+rest : (m : ℕ) → 173 ≤ m → m < 346 → false ≡ pairwise (nameOf m)
+unfolding values names nameOf pairwise
+rest = stretch false 173 173 refl
+
+-- no name from 173 on is pairwise
+pub no-more : (m : ℕ) → 173 ≤ m → false ≡ pairwise (nameOf m)
+unfolding pairwise
+no-more m h = go (ltb m 346) refl
+  where
+    go : (b : Bool) → ltb m 346 ≡ b → false ≡ pairwise (nameOf m)
+    go true e = rest m h (ltb-true m 346 e)
+    go false e = sym (ap pairwise (no-name m (ltb-false m 346 e)))

@@ -1,0 +1,46 @@
+-- How many cells each row of each table has, and that a cell past the table has no mnemonic: antt computes the first.
+-- Assumes nothing.
+use mathlib.Core.Path.{_≡_, refl, sym, ap, _∙_}
+use mathlib.Core.List.{List, [], map}
+use Prim.Native.Nat.{ℕ, _<_, _≤_}
+use Prim.Native.String.{String}
+use lib.ListN.{length, getD, List·getD-eq-default}
+use Rattle.laws.proofs.Range.{values, agree}
+use Rattle.tables.specs.Cells.{cellAt}
+use Rattle.tables.specs.Same3.{same3}
+use Rattle.tables.specs.Shift.{shiftRows, shiftCells, vmovl}
+use Rattle.tables.specs.Modimm.{modimm}
+use Rattle.tables.specs.Diff.{diffRows, diffCells}
+use Rattle.tables.specs.Names.{names, numberOf, blank}
+
+abbrev width : List (List String) → ℕ → ℕ
+width table r = length (getD table r [])
+
+pub same3-width : (r : ℕ) → r < 64 → width same3 r ≡ 4
+unfolding values same3
+same3-width = agree (width same3) (λ r. 4) 64 refl
+
+pub shift-width : (r : ℕ) → r < 64 → width shiftCells r ≡ 4
+unfolding values shiftRows shiftCells
+shift-width = agree (width shiftCells) (λ r. 4) 64 refl
+
+pub vmovl-width : (r : ℕ) → r < 2 → width vmovl r ≡ 4
+unfolding values vmovl
+vmovl-width = agree (width vmovl) (λ r. 4) 2 refl
+
+pub modimm-width : (r : ℕ) → r < 2 → width modimm r ≡ 16
+unfolding values modimm
+modimm-width = agree (width modimm) (λ r. 16) 2 refl
+
+pub diff-width : (r : ℕ) → r < 32 → width diffCells r ≡ 4
+unfolding values diffRows diffCells
+diff-width = agree (width diffCells) (λ r. 4) 32 refl
+
+blank-number : numberOf "" ≡ blank
+unfolding names numberOf
+blank-number = refl
+
+-- a row past the table is blank
+pub past : (table : List (List String)) (r c : ℕ) → length table ≤ r → blank ≡ numberOf (cellAt table r c)
+past table r c h =
+    sym (ap (λ (l : List String). numberOf (getD l c "")) (List·getD-eq-default table [] {n = r} h) ∙ blank-number)

@@ -1,0 +1,26 @@
+-- `tables::diff::cell` meets its contract: the array is the table's numbers, which antt computes.
+-- Assumes nothing.
+use Prim.Native.Nat.{_/_, _%_}
+use native.Mathlib.Omega.{arith}
+use borrow.Author.Needs.{needs}
+use Rattle.laws.proofs.Tables.{mapped-rows}
+use Rattle.tables.specs.Diff.{diffRows, diffCells}
+use Rattle.tables.specs.Names.{names, numberOf}
+use Rattle.tables.proofs.Widths.{diff-width, past}
+use Rattle.tables.proofs.diff.cell.Statement.{statement}
+use Rattle.tables.proofs.diff.cell.Tie as tie
+
+returns : tie.Need-returns
+unfolding diffRows diffCells names numberOf
+returns c =
+    let k = c .before .before .args .k in
+    mapped-rows numberOf diffCells "" 0 (k / 4) (k % 4) (omega arith) (omega (arith, diff-width (k / 4) (omega arith)))
+
+returns-2 : tie.Need-returns-2
+unfolding diffRows diffCells
+returns-2 c = past diffCells (c .before .args .k / 4) (c .before .args .k % 4) (omega arith)
+
+pub cell-spec : {M : Type 1} → statement M
+cell-spec =
+    tie.close
+    (tie.spec (λ c. search needs) (λ c. search needs) (λ c. search needs) (λ c. search needs) (λ c. search needs) (λ c. search needs) returns returns-2)

@@ -1,0 +1,26 @@
+-- `tables::shift::vmovl_cell` meets its contract: the array is the table's numbers, which antt computes.
+-- Assumes nothing.
+use Prim.Native.Nat.{_/_, _%_}
+use native.Mathlib.Omega.{arith}
+use borrow.Author.Needs.{needs}
+use Rattle.laws.proofs.Tables.{mapped-rows}
+use Rattle.tables.specs.Shift.{vmovl}
+use Rattle.tables.specs.Names.{names, numberOf}
+use Rattle.tables.proofs.Widths.{vmovl-width, past}
+use Rattle.tables.proofs.shift.vmovl_cell.Statement.{statement}
+use Rattle.tables.proofs.shift.vmovl_cell.Tie as tie
+
+returns : tie.Need-returns
+unfolding vmovl names numberOf
+returns c =
+    let k = c .before .before .args .k in
+    mapped-rows numberOf vmovl "" 0 (k / 4) (k % 4) (omega arith) (omega (arith, vmovl-width (k / 4) (omega arith)))
+
+returns-2 : tie.Need-returns-2
+unfolding vmovl
+returns-2 c = past vmovl (c .before .args .k / 4) (c .before .args .k % 4) (omega arith)
+
+pub vmovl-cell-spec : {M : Type 1} → statement M
+vmovl-cell-spec =
+    tie.close
+    (tie.spec (λ c. search needs) (λ c. search needs) (λ c. search needs) (λ c. search needs) (λ c. search needs) (λ c. search needs) returns returns-2)

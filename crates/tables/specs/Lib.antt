@@ -1,0 +1,7 @@
+pub mod Cells
+pub mod Same3
+pub mod Shift
+pub mod Modimm
+pub mod Diff
+pub mod Names
+pub mod Promises
