@@ -1,0 +1,4 @@
+pub mod Halfwords
+pub mod Registers
+pub mod Answers
+pub mod Promises

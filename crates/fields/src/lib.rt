@@ -1,0 +1,85 @@
+// The fields of a pair: register numbers, and the two halfwords put together from their fields.
+ghost use mathlib.Core.Path.{_≡_};
+ghost use Prim.Native.Nat.{_%_};
+ghost use Rattle.fields.specs.Answers.{vectorAnswer, bitsAnswer};
+ghost use Rattle.fields.specs.Halfwords.{first, second};
+ghost use Rattle.fields.specs.Registers.{dnumOf, vecOf, vecBits};
+use insn::Operand;
+use insn::Refusal;
+
+// What `vec` answers: a register, or the refusal.
+pub enum Vector {
+    Is(Operand),
+    Refused(Refusal),
+}
+
+// What `vec_bits` answers: whether the register is a quadword, and the number of its (lower) doubleword; or the refusal.
+pub enum VectorBits {
+    Are(bool, u8),
+    Refused(Refusal),
+}
+
+// The doubleword register number hi:lo, from bit 0 of hi and bits 3..0 of lo.
+pub fn dnum(hi: u16, lo: u16) -> u8
+    ensures { λ r. ⌜ r ≡ dnumOf hi lo ⌝ }
+{
+    (hi % 2 * 16 + lo % 16) as u8
+}
+
+// The register that the number d names, as a quadword or as a doubleword.
+pub fn vec(quad: bool, d: u8) -> Vector
+    ensures { λ r. ⌜ vectorAnswer r ≡ vecOf quad d ⌝ }
+{
+    if quad {
+        if d % 2 == 0 {
+            return Vector::Is(Operand::Q(d / 2));
+        }
+        return Vector::Refused(Refusal::OddQuad);
+    }
+    Vector::Is(Operand::D(d))
+}
+
+// The inverse of `vec`, for D0 to D31 and Q0 to Q15.
+pub fn vec_bits(reg: Operand) -> VectorBits
+    ensures { λ r. ⌜ bitsAnswer r ≡ vecBits reg ⌝ }
+{
+    match reg {
+        Operand::D(n) => {
+            if n < 32 {
+                return VectorBits::Are(false, n);
+            }
+            VectorBits::Refused(Refusal::WrongForm)
+        }
+        Operand::Q(n) => {
+            if n < 16 {
+                return VectorBits::Are(true, 2 * n);
+            }
+            VectorBits::Refused(Refusal::WrongForm)
+        }
+        Operand::S(_) => VectorBits::Refused(Refusal::WrongForm),
+        Operand::Imm(_) => VectorBits::Refused(Refusal::WrongForm),
+        Operand::Float(_) => VectorBits::Refused(Refusal::WrongForm),
+        Operand::Other => VectorBits::Refused(Refusal::WrongForm),
+        Operand::Absent => VectorBits::Refused(Refusal::WrongForm),
+    }
+}
+
+// The first halfword of a pair, from the low bits of its fields.
+pub fn first_halfword(u: u16, a: u16, d: u16, low: u16) -> u16
+    ensures { λ r. ⌜ r ≡ first (u % 2) (a % 2) (d % 2) (low % 64) ⌝ }
+{
+    0xef00 + u % 2 * 0x1000 + a % 2 * 0x80 + d % 2 * 0x40 + low % 64
+}
+
+// The second halfword of a pair, from the low bits of its fields.
+pub fn second_halfword(vd: u16, op: u16, b7: u16, b6: u16, b5: u16, b4: u16, low: u16) -> u16
+    ensures { λ r. ⌜ r ≡ second (vd % 16) (op % 16) (b7 % 2) (b6 % 2) (b5 % 2) (b4 % 2) (low % 16) ⌝ }
+{
+    vd % 16 * 0x1000
+        + op % 16 * 0x100
+        + b7 % 2 * 0x80
+        + b6 % 2 * 0x40
+        + b5 % 2 * 0x20
+        + b4 % 2 * 0x10
+        + low % 16
+}
