@@ -2,7 +2,8 @@
 -- Assumes nothing.
 use mathlib.Core.Path.{_≡_, refl, ap, sym, subst, _∙_}
 use mathlib.Core.List.{List, [], _∷_}
-use Prim.Native.Nat.{ℕ, zero, suc, _+_, _-_, _<_, _≤_}
+use Prim.Native.Nat.{ℕ, zero, suc, _+_, _-_, _*_, _/_, _%_, _<_, _≤_}
+use lib.Arith.{digits-lt, digits-div, digits-mod}
 use native.Mathlib.Omega.{arith}
 use native.Mathlib.Nat.{add-zero, zero-add, add-suc, suc-add, le-of-suc-le-suc, not-suc-le-zero}
 
@@ -24,3 +25,11 @@ agree-from f g lo n e k h l = let same : lo + (k - lo) ≡ k = omega arith in rw
 -- at every number below n
 pub agree : {A : Type 0} (f g : ℕ → A) (n : ℕ) → values f 0 n ≡ values g 0 n → (k : ℕ) → k < n → f k ≡ g k
 agree f g n e k h = rw zero-add at (from f g 0 n e k h)
+
+-- at every number below n and every number below m
+pub agree2 : {A : Type 0} (f g : ℕ → ℕ → A) (n m : ℕ)
+    → values (λ (t : ℕ). f (t / m) (t % m)) 0 (n * m) ≡ values (λ (t : ℕ). g (t / m) (t % m)) 0 (n * m)
+    → (i j : ℕ) → i < n → j < m → f i j ≡ g i j
+agree2 f g n m e i j hi hj =
+    rw (digits-div i hj, digits-mod i hj) at
+    (agree (λ (t : ℕ). f (t / m) (t % m)) (λ (t : ℕ). g (t / m) (t % m)) (n * m) e (i * m + j) (digits-lt hi hj))

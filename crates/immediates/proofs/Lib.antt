@@ -1,0 +1,5 @@
+pub mod Exact
+pub mod Expansions
+pub mod Promises
+pub mod Shifts
+pub mod Signs

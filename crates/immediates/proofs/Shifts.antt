@@ -1,0 +1,31 @@
+-- The element size that L and imm6 encode: at most 64 bits.
+-- Assumes nothing.
+use mathlib.Core.Path.{_≡_, refl}
+use mathlib.Core.Bool.{Bool, true, false}
+use Prim.Native.Nat.{ℕ, _*_, _%_, _^_, _<_, _≤_}
+use native.Mathlib.Omega.{arith}
+use lib.Dec.{eqb, leb}
+use borrow.Author.Tests.{leb-true}
+use Rattle.laws.specs.Choice.{choose}
+use Rattle.laws.proofs.Range.{values, agree}
+use Rattle.fields.specs.Halfwords.{bit}
+use Rattle.immediates.specs.Shifts.{codeOf, bitsOf}
+
+pub code-lt : (l imm6 : ℕ) → codeOf l imm6 < 4
+unfolding codeOf
+code-lt l imm6 = go (eqb l 0) (eqb (bit 5 imm6) 1) (eqb (bit 4 imm6) 1)
+  where
+    go : (a b c : Bool) → choose a (choose b 2 (choose c 1 0)) 3 < 4
+    go true true c = omega arith
+    go true false true = omega arith
+    go true false false = omega arith
+    go false b c = omega arith
+
+-- 8 shifted left by the code is its bits, with none lost
+pub shifted : (k : ℕ) → k < 4 → 8 * 2 ^ k % 256 ≡ bitsOf k
+unfolding values
+shifted = agree (λ (k : ℕ). 8 * 2 ^ k % 256) bitsOf 4 refl
+
+pub bits-le : (k : ℕ) → k < 4 → bitsOf k ≤ 64
+unfolding values
+bits-le k h = leb-true (bitsOf k) 64 (agree (λ (k : ℕ). leb (bitsOf k) 64) (λ (k : ℕ). true) 4 refl k h)

@@ -1,0 +1,25 @@
+-- `immediates::shift::shift_code` meets its contract.
+-- Assumes nothing.
+use Rattle.laws.proofs.Tests.{tests}
+use Rattle.immediates.specs.Shifts.{codeOf}
+use Rattle.immediates.proofs.shift.shift_code.Statement.{statement}
+use Rattle.immediates.proofs.shift.shift_code.Tie as tie
+
+returns : tie.Need-returns
+unfolding codeOf
+returns c = search tests
+
+returns-2 : tie.Need-returns-2
+unfolding codeOf
+returns-2 c = search tests
+
+returns-3 : tie.Need-returns-3
+unfolding codeOf
+returns-3 c = search tests
+
+returns-4 : tie.Need-returns-4
+unfolding codeOf
+returns-4 c = search tests
+
+pub shift-code-spec : {M : Type 1} → statement M
+shift-code-spec = tie.close (tie.spec returns returns-2 returns-3 returns-4)

@@ -1,0 +1,6 @@
+pub mod Shifts
+pub mod Signed
+pub mod Modified
+pub mod Floats
+pub mod Answers
+pub mod Promises

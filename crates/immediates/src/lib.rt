@@ -1,0 +1,4 @@
+// What the immediate fields of a pair stand for: shift amounts and modified immediates.
+pub mod modified;
+pub mod shift;
+pub mod signed;
