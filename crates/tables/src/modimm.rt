@@ -8,41 +8,41 @@ use crate::BLANK;
 
 const MODIMM_NAMES: [[u16; 16]; 2] = [
     [
-        261,
-        262,
-        261,
-        262,
-        261,
-        262,
-        261,
-        262,
-        263,
-        264,
-        263,
-        264,
-        261,
-        261,
-        265,
-        266,
-    ], // op=0
+        261, // op=0 cmode=0000
+        262, // op=0 cmode=0001
+        261, // op=0 cmode=0010
+        262, // op=0 cmode=0011
+        261, // op=0 cmode=0100
+        262, // op=0 cmode=0101
+        261, // op=0 cmode=0110
+        262, // op=0 cmode=0111
+        263, // op=0 cmode=1000
+        264, // op=0 cmode=1001
+        263, // op=0 cmode=1010
+        264, // op=0 cmode=1011
+        261, // op=0 cmode=1100
+        261, // op=0 cmode=1101
+        265, // op=0 cmode=1110
+        266, // op=0 cmode=1111
+    ],
     [
-        267,
-        268,
-        267,
-        268,
-        267,
-        268,
-        267,
-        268,
-        269,
-        270,
-        269,
-        270,
-        267,
-        267,
-        271,
-        BLANK,
-    ], // op=1
+        267, // op=1 cmode=0000
+        268, // op=1 cmode=0001
+        267, // op=1 cmode=0010
+        268, // op=1 cmode=0011
+        267, // op=1 cmode=0100
+        268, // op=1 cmode=0101
+        267, // op=1 cmode=0110
+        268, // op=1 cmode=0111
+        269, // op=1 cmode=1000
+        270, // op=1 cmode=1001
+        269, // op=1 cmode=1010
+        270, // op=1 cmode=1011
+        267, // op=1 cmode=1100
+        267, // op=1 cmode=1101
+        271, // op=1 cmode=1110
+        BLANK, // op=1 cmode=1111
+    ],
 ];
 
 // The mnemonic in the cell op:cmode.
