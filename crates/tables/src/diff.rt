@@ -44,74 +44,76 @@ const DIFF_ROWS: [[u16; 4]; 32] = [
     [BLANK, BLANK, BLANK, BLANK], // U=1 A=1111
 ];
 
-const DIFF_SHAPES: [DiffShape; 32] = [
-    DiffShape::Long, // U=0 A=0000
-    DiffShape::Wide, // U=0 A=0001
-    DiffShape::Long, // U=0 A=0010
-    DiffShape::Wide, // U=0 A=0011
-    DiffShape::Narrow, // U=0 A=0100
-    DiffShape::Long, // U=0 A=0101
-    DiffShape::Narrow, // U=0 A=0110
-    DiffShape::Long, // U=0 A=0111
-    DiffShape::Long, // U=0 A=1000
-    DiffShape::Long, // U=0 A=1001
-    DiffShape::Long, // U=0 A=1010
-    DiffShape::Long, // U=0 A=1011
-    DiffShape::Long, // U=0 A=1100
-    DiffShape::Long, // U=0 A=1101
-    DiffShape::Long, // U=0 A=1110
-    DiffShape::Long, // U=0 A=1111
-    DiffShape::Long, // U=1 A=0000
-    DiffShape::Wide, // U=1 A=0001
-    DiffShape::Long, // U=1 A=0010
-    DiffShape::Wide, // U=1 A=0011
-    DiffShape::Narrow, // U=1 A=0100
-    DiffShape::Long, // U=1 A=0101
-    DiffShape::Narrow, // U=1 A=0110
-    DiffShape::Long, // U=1 A=0111
-    DiffShape::Long, // U=1 A=1000
-    DiffShape::Long, // U=1 A=1001
-    DiffShape::Long, // U=1 A=1010
-    DiffShape::Long, // U=1 A=1011
-    DiffShape::Long, // U=1 A=1100
-    DiffShape::Long, // U=1 A=1101
-    DiffShape::Long, // U=1 A=1110
-    DiffShape::Long, // U=1 A=1111
+// The shape of each row: 0 long, 1 wide, 2 narrow.
+const DIFF_SHAPES: [u8; 32] = [
+    0, // U=0 A=0000
+    1, // U=0 A=0001
+    0, // U=0 A=0010
+    1, // U=0 A=0011
+    2, // U=0 A=0100
+    0, // U=0 A=0101
+    2, // U=0 A=0110
+    0, // U=0 A=0111
+    0, // U=0 A=1000
+    0, // U=0 A=1001
+    0, // U=0 A=1010
+    0, // U=0 A=1011
+    0, // U=0 A=1100
+    0, // U=0 A=1101
+    0, // U=0 A=1110
+    0, // U=0 A=1111
+    0, // U=1 A=0000
+    1, // U=1 A=0001
+    0, // U=1 A=0010
+    1, // U=1 A=0011
+    2, // U=1 A=0100
+    0, // U=1 A=0101
+    2, // U=1 A=0110
+    0, // U=1 A=0111
+    0, // U=1 A=1000
+    0, // U=1 A=1001
+    0, // U=1 A=1010
+    0, // U=1 A=1011
+    0, // U=1 A=1100
+    0, // U=1 A=1101
+    0, // U=1 A=1110
+    0, // U=1 A=1111
 ];
 
-const DIFF_MARKS: [Mark; 32] = [
-    Mark::T1, // U=0 A=0000
-    Mark::T1, // U=0 A=0001
-    Mark::T1, // U=0 A=0010
-    Mark::T1, // U=0 A=0011
-    Mark::T1, // U=0 A=0100
-    Mark::T2, // U=0 A=0101
-    Mark::T1, // U=0 A=0110
-    Mark::T2, // U=0 A=0111
-    Mark::T2, // U=0 A=1000
-    Mark::T1, // U=0 A=1001
-    Mark::T2, // U=0 A=1010
-    Mark::T1, // U=0 A=1011
-    Mark::T2, // U=0 A=1100
-    Mark::T1, // U=0 A=1101
-    Mark::T2, // U=0 A=1110
-    Mark::T1, // U=0 A=1111
-    Mark::T1, // U=1 A=0000
-    Mark::T1, // U=1 A=0001
-    Mark::T1, // U=1 A=0010
-    Mark::T1, // U=1 A=0011
-    Mark::T1, // U=1 A=0100
-    Mark::T2, // U=1 A=0101
-    Mark::T1, // U=1 A=0110
-    Mark::T2, // U=1 A=0111
-    Mark::T2, // U=1 A=1000
-    Mark::T1, // U=1 A=1001
-    Mark::T2, // U=1 A=1010
-    Mark::T1, // U=1 A=1011
-    Mark::T2, // U=1 A=1100
-    Mark::T1, // U=1 A=1101
-    Mark::T1, // U=1 A=1110
-    Mark::T1, // U=1 A=1111
+// The encoding of each row: 1 for T1, 2 for T2.
+const DIFF_MARKS: [u8; 32] = [
+    1, // U=0 A=0000
+    1, // U=0 A=0001
+    1, // U=0 A=0010
+    1, // U=0 A=0011
+    1, // U=0 A=0100
+    2, // U=0 A=0101
+    1, // U=0 A=0110
+    2, // U=0 A=0111
+    2, // U=0 A=1000
+    1, // U=0 A=1001
+    2, // U=0 A=1010
+    1, // U=0 A=1011
+    2, // U=0 A=1100
+    1, // U=0 A=1101
+    2, // U=0 A=1110
+    1, // U=0 A=1111
+    1, // U=1 A=0000
+    1, // U=1 A=0001
+    1, // U=1 A=0010
+    1, // U=1 A=0011
+    1, // U=1 A=0100
+    2, // U=1 A=0101
+    1, // U=1 A=0110
+    2, // U=1 A=0111
+    2, // U=1 A=1000
+    1, // U=1 A=1001
+    2, // U=1 A=1010
+    1, // U=1 A=1011
+    2, // U=1 A=1100
+    1, // U=1 A=1101
+    1, // U=1 A=1110
+    1, // U=1 A=1111
 ];
 
 // The mnemonic in the cell U:A:size.
@@ -130,20 +132,29 @@ pub fn cell(k: u8) -> u16
 pub fn shape(row: u8) -> DiffShape
     ensures { λ r. ⌜ r ≡ getD diffShapes row DiffShape.Long ⌝ }
 {
-    if row < 32 {
-        let at = row as usize;
-        return DIFF_SHAPES[at];
+    if 32 <= row {
+        return DiffShape::Long;
     }
-    DiffShape::Long
+    let at = row as usize;
+    let code = DIFF_SHAPES[at];
+    match code {
+        1 => DiffShape::Wide,
+        2 => DiffShape::Narrow,
+        _ => DiffShape::Long,
+    }
 }
 
 // The manual's name of the encoding of the row U:A; a row past the table has that of a blank one.
 pub fn mark(row: u8) -> Mark
     ensures { λ r. ⌜ r ≡ getD diffMarks row Mark.T1 ⌝ }
 {
-    if row < 32 {
-        let at = row as usize;
-        return DIFF_MARKS[at];
+    if 32 <= row {
+        return Mark::T1;
     }
-    Mark::T1
+    let at = row as usize;
+    let code = DIFF_MARKS[at];
+    match code {
+        2 => Mark::T2,
+        _ => Mark::T1,
+    }
 }

@@ -75,71 +75,72 @@ const SHIFT_ROWS: [[u16; 4]; 64] = [
     [254, BLANK, BLANK, BLANK], // U=1 A=1111 B=1
 ];
 
-const SHIFT_CLASSES: [ShiftClass; 64] = [
-    ShiftClass::Right, // U=0 A=0000 B=0
-    ShiftClass::Right, // U=0 A=0000 B=1
-    ShiftClass::Right, // U=0 A=0001 B=0
-    ShiftClass::Right, // U=0 A=0001 B=1
-    ShiftClass::Right, // U=0 A=0010 B=0
-    ShiftClass::Right, // U=0 A=0010 B=1
-    ShiftClass::Right, // U=0 A=0011 B=0
-    ShiftClass::Right, // U=0 A=0011 B=1
-    ShiftClass::Right, // U=0 A=0100 B=0
-    ShiftClass::Right, // U=0 A=0100 B=1
-    ShiftClass::Left, // U=0 A=0101 B=0
-    ShiftClass::Left, // U=0 A=0101 B=1
-    ShiftClass::Right, // U=0 A=0110 B=0
-    ShiftClass::Right, // U=0 A=0110 B=1
-    ShiftClass::Left, // U=0 A=0111 B=0
-    ShiftClass::Left, // U=0 A=0111 B=1
-    ShiftClass::Narrow, // U=0 A=1000 B=0
-    ShiftClass::Narrow, // U=0 A=1000 B=1
-    ShiftClass::Narrow, // U=0 A=1001 B=0
-    ShiftClass::Narrow, // U=0 A=1001 B=1
-    ShiftClass::Long, // U=0 A=1010 B=0
-    ShiftClass::Right, // U=0 A=1010 B=1
-    ShiftClass::Right, // U=0 A=1011 B=0
-    ShiftClass::Right, // U=0 A=1011 B=1
-    ShiftClass::Right, // U=0 A=1100 B=0
-    ShiftClass::Right, // U=0 A=1100 B=1
-    ShiftClass::Right, // U=0 A=1101 B=0
-    ShiftClass::Right, // U=0 A=1101 B=1
-    ShiftClass::Convert, // U=0 A=1110 B=0
-    ShiftClass::Convert, // U=0 A=1110 B=1
-    ShiftClass::Convert, // U=0 A=1111 B=0
-    ShiftClass::Convert, // U=0 A=1111 B=1
-    ShiftClass::Right, // U=1 A=0000 B=0
-    ShiftClass::Right, // U=1 A=0000 B=1
-    ShiftClass::Right, // U=1 A=0001 B=0
-    ShiftClass::Right, // U=1 A=0001 B=1
-    ShiftClass::Right, // U=1 A=0010 B=0
-    ShiftClass::Right, // U=1 A=0010 B=1
-    ShiftClass::Right, // U=1 A=0011 B=0
-    ShiftClass::Right, // U=1 A=0011 B=1
-    ShiftClass::Right, // U=1 A=0100 B=0
-    ShiftClass::Right, // U=1 A=0100 B=1
-    ShiftClass::Left, // U=1 A=0101 B=0
-    ShiftClass::Left, // U=1 A=0101 B=1
-    ShiftClass::Left, // U=1 A=0110 B=0
-    ShiftClass::Left, // U=1 A=0110 B=1
-    ShiftClass::Left, // U=1 A=0111 B=0
-    ShiftClass::Left, // U=1 A=0111 B=1
-    ShiftClass::Narrow, // U=1 A=1000 B=0
-    ShiftClass::Narrow, // U=1 A=1000 B=1
-    ShiftClass::Narrow, // U=1 A=1001 B=0
-    ShiftClass::Narrow, // U=1 A=1001 B=1
-    ShiftClass::Long, // U=1 A=1010 B=0
-    ShiftClass::Right, // U=1 A=1010 B=1
-    ShiftClass::Right, // U=1 A=1011 B=0
-    ShiftClass::Right, // U=1 A=1011 B=1
-    ShiftClass::Right, // U=1 A=1100 B=0
-    ShiftClass::Right, // U=1 A=1100 B=1
-    ShiftClass::Right, // U=1 A=1101 B=0
-    ShiftClass::Right, // U=1 A=1101 B=1
-    ShiftClass::Convert, // U=1 A=1110 B=0
-    ShiftClass::Convert, // U=1 A=1110 B=1
-    ShiftClass::Convert, // U=1 A=1111 B=0
-    ShiftClass::Convert, // U=1 A=1111 B=1
+// The class of each row: 0 right, 1 left, 2 narrowing, 3 lengthening, 4 conversion.
+const SHIFT_CLASSES: [u8; 64] = [
+    0, // U=0 A=0000 B=0
+    0, // U=0 A=0000 B=1
+    0, // U=0 A=0001 B=0
+    0, // U=0 A=0001 B=1
+    0, // U=0 A=0010 B=0
+    0, // U=0 A=0010 B=1
+    0, // U=0 A=0011 B=0
+    0, // U=0 A=0011 B=1
+    0, // U=0 A=0100 B=0
+    0, // U=0 A=0100 B=1
+    1, // U=0 A=0101 B=0
+    1, // U=0 A=0101 B=1
+    0, // U=0 A=0110 B=0
+    0, // U=0 A=0110 B=1
+    1, // U=0 A=0111 B=0
+    1, // U=0 A=0111 B=1
+    2, // U=0 A=1000 B=0
+    2, // U=0 A=1000 B=1
+    2, // U=0 A=1001 B=0
+    2, // U=0 A=1001 B=1
+    3, // U=0 A=1010 B=0
+    0, // U=0 A=1010 B=1
+    0, // U=0 A=1011 B=0
+    0, // U=0 A=1011 B=1
+    0, // U=0 A=1100 B=0
+    0, // U=0 A=1100 B=1
+    0, // U=0 A=1101 B=0
+    0, // U=0 A=1101 B=1
+    4, // U=0 A=1110 B=0
+    4, // U=0 A=1110 B=1
+    4, // U=0 A=1111 B=0
+    4, // U=0 A=1111 B=1
+    0, // U=1 A=0000 B=0
+    0, // U=1 A=0000 B=1
+    0, // U=1 A=0001 B=0
+    0, // U=1 A=0001 B=1
+    0, // U=1 A=0010 B=0
+    0, // U=1 A=0010 B=1
+    0, // U=1 A=0011 B=0
+    0, // U=1 A=0011 B=1
+    0, // U=1 A=0100 B=0
+    0, // U=1 A=0100 B=1
+    1, // U=1 A=0101 B=0
+    1, // U=1 A=0101 B=1
+    1, // U=1 A=0110 B=0
+    1, // U=1 A=0110 B=1
+    1, // U=1 A=0111 B=0
+    1, // U=1 A=0111 B=1
+    2, // U=1 A=1000 B=0
+    2, // U=1 A=1000 B=1
+    2, // U=1 A=1001 B=0
+    2, // U=1 A=1001 B=1
+    3, // U=1 A=1010 B=0
+    0, // U=1 A=1010 B=1
+    0, // U=1 A=1011 B=0
+    0, // U=1 A=1011 B=1
+    0, // U=1 A=1100 B=0
+    0, // U=1 A=1100 B=1
+    0, // U=1 A=1101 B=0
+    0, // U=1 A=1101 B=1
+    4, // U=1 A=1110 B=0
+    4, // U=1 A=1110 B=1
+    4, // U=1 A=1111 B=0
+    4, // U=1 A=1111 B=1
 ];
 
 const VMOVL_NAMES: [[u16; 4]; 2] = [
@@ -160,11 +161,18 @@ pub fn cell(k: u8) -> u16
 pub fn class(row: u8) -> ShiftClass
     ensures { λ r. ⌜ r ≡ getD shiftClasses row ShiftClass.Right ⌝ }
 {
-    if row < 64 {
-        let at = row as usize;
-        return SHIFT_CLASSES[at];
+    if 64 <= row {
+        return ShiftClass::Right;
     }
-    ShiftClass::Right
+    let at = row as usize;
+    let code = SHIFT_CLASSES[at];
+    match code {
+        1 => ShiftClass::Left,
+        2 => ShiftClass::Narrow,
+        3 => ShiftClass::Long,
+        4 => ShiftClass::Convert,
+        _ => ShiftClass::Right,
+    }
 }
 
 // The mnemonic of VSHLL by 0 in the cell U:size.
