@@ -1,0 +1,109 @@
+-- The laws of lane-wise operations, each over the width w.
+-- Assumes nothing.
+use mathlib.Core.Path.{_≡_, refl, sym, _∙_, ap}
+use Prim.Native.Nat.{ℕ, zero, suc, _+_, _-_, _*_, _/_, _%_, _^_, _≤_, _<_}
+use native.Mathlib.Nat.{mul-suc, mul-zero, add-zero, zero-add, suc-add, mul-assoc, mul-comm, mul-add, add-assoc, add-comm, add-mul-mod-self-left, add-mul-div-left, div-lt-iff-lt-mul, div-eq-of-lt, mod-eq-of-lt, mod-lt, one-mul, not-suc-le-zero, le-of-suc-le-suc, mul-le-mul-left, mul-lt-mul-of-pos-left, sub-zero, sub-self, div-one}
+use native.Mathlib.Omega.{arith}
+use lib.Pow.{pow-pos, pow-add, shr-shr}
+use lib.Arith.{lt-one, digits-lt}
+use Rattle.lanes.specs.Lane.{lanewise}
+
+-- 2^(w × (j+1)) is 2^w × 2^(w × j)
+pow-suc : (w j : ℕ) → 2 ^ (w * suc j) ≡ 2 ^ w * 2 ^ (w * j)
+pow-suc w j = ap (λ (e : ℕ). 2 ^ e) (mul-suc w j) ∙ pow-add 2 (w * j) w ∙ mul-comm (2 ^ (w * j)) (2 ^ w)
+
+module _ (w j : ℕ) where
+  step-mod : (a b : ℕ) → (a + 2 ^ (w * suc j) * b) % 2 ^ w ≡ a % 2 ^ w
+  step-mod a b = rw (pow-suc, mul-assoc) (add-mul-mod-self-left a (2 ^ w) (2 ^ (w * j) * b))
+
+  step-div : (a b : ℕ) → (a + 2 ^ (w * suc j) * b) / 2 ^ w ≡ a / 2 ^ w + 2 ^ (w * j) * b
+  step-div a b = rw (pow-suc, mul-assoc) (add-mul-div-left a (2 ^ (w * j) * b) (pow-pos w))
+
+  step-lt : (a : ℕ) → a < 2 ^ (w * suc j) → a / 2 ^ w < 2 ^ (w * j)
+  step-lt a h = div-lt-iff-lt-mul (pow-pos w) .1 (rw (pow-suc, mul-comm (2 ^ w)) at h)
+
+zero-sum : (w a b : ℕ) → a < 2 ^ (w * 0) → a + 2 ^ (w * 0) * b ≡ b
+zero-sum w a b h = rw (lt-one (rw mul-zero at h), mul-zero, one-mul, zero-add)
+
+module _ (f : ℕ → ℕ → ℕ → ℕ) (w : ℕ) where
+  -- lanes on both sides of a lane boundary are taken apart there
+  pub split : (j k a b c d e g : ℕ) → a < 2 ^ (w * j) → c < 2 ^ (w * j) → e < 2 ^ (w * j)
+      → lanewise f w (j + k) (a + 2 ^ (w * j) * b) (c + 2 ^ (w * j) * d) (e + 2 ^ (w * j) * g)
+      ≡ lanewise f w j a c e + 2 ^ (w * j) * lanewise f w k b d g
+  unfolding lanewise
+  split zero k a b c d e g ha hc he =
+      rw (zero-sum w a b ha, zero-sum w c d hc, zero-sum w e g he, zero-add, mul-zero, one-mul, zero-add)
+  split (suc j) k a b c d e g ha hc he =
+      rw (
+        suc-add,
+        step-mod,
+        step-mod,
+        step-mod,
+        step-div,
+        step-div,
+        step-div,
+        split j k (a / 2 ^ w) b (c / 2 ^ w) d (e / 2 ^ w) g (step-lt w j a ha) (step-lt w j c hc) (step-lt w j e he),
+        pow-suc,
+        mul-add,
+        mul-assoc,
+        add-assoc,
+      )
+
+  -- one more lane, at the low end: what a turn of the loop does
+  pub next : (c i d n m : ℕ) → 0 < i → i ≤ c
+      → f (d / 2 ^ (w * (i - 1)) % 2 ^ w) (n / 2 ^ (w * (i - 1)) % 2 ^ w) (m / 2 ^ (w * (i - 1)) % 2 ^ w) + 2 ^ w * lanewise f w (c - i) (d / 2 ^ (w * i)) (n / 2 ^ (w * i)) (m / 2 ^ (w * i))
+      ≡ lanewise f w (c - (i - 1)) (d / 2 ^ (w * (i - 1))) (n / 2 ^ (w * (i - 1))) (m / 2 ^ (w * (i - 1)))
+  unfolding lanewise
+  next c zero d n m p q = absurd (not-suc-le-zero p)
+  next c (suc j) d n m p q =
+      let e : suc j - 1 ≡ j = omega arith in
+      let g : c - j ≡ suc (c - suc j) = omega arith in
+      rw (e, g, shr-shr, shr-shr, shr-shr, mul-suc)
+
+  -- the loop's two ends
+  pub first : (c d n m : ℕ) → 0 ≡ lanewise f w (c - c) d n m
+  unfolding lanewise
+  first c d n m = rw sub-self
+
+  pub last : (c i d n m : ℕ) → i ≡ 0 → lanewise f w (c - i) (d / 2 ^ (w * i)) (n / 2 ^ (w * i)) (m / 2 ^ (w * i)) ≡ lanewise f w c d n m
+  last c i d n m e = rw (e, sub-zero, mul-zero, div-one, div-one, div-one)
+
+  -- one lane is the whole number
+  pub single : (d n m : ℕ) → d < 2 ^ w → n < 2 ^ w → m < 2 ^ w → lanewise f w 1 d n m ≡ f d n m
+  unfolding lanewise
+  single d n m p q r = rw (mod-eq-of-lt p, mod-eq-of-lt q, mod-eq-of-lt r, mul-zero, add-zero)
+
+-- where f gives a lane
+module _ (f : ℕ → ℕ → ℕ → ℕ) (w : ℕ) (b : (d n m : ℕ) → f d n m < 2 ^ w) where
+  -- k lanes of w bits have w × k bits
+  pub lanes-lt : (k d n m : ℕ) → lanewise f w k d n m < 2 ^ (w * k)
+  unfolding lanewise
+  lanes-lt zero d n m = pow-pos (w * 0)
+  lanes-lt (suc k) d n m =
+      let q = digits-lt (lanes-lt k (d / 2 ^ w) (n / 2 ^ w) (m / 2 ^ w)) (b (d % 2 ^ w) (n % 2 ^ w) (m % 2 ^ w)) in
+      rw (pow-suc, mul-comm (2 ^ w), add-comm, mul-comm (2 ^ w)) q
+
+  -- lane i of the result comes from lane i of each operand
+  pub each : (k i d n m : ℕ) → i < k
+      → lanewise f w k d n m / 2 ^ (w * i) % 2 ^ w ≡ f (d / 2 ^ (w * i) % 2 ^ w) (n / 2 ^ (w * i) % 2 ^ w) (m / 2 ^ (w * i) % 2 ^ w)
+  unfolding lanewise
+  each zero i d n m h = absurd (not-suc-le-zero h)
+  each (suc k) zero d n m h =
+      rw (mul-zero, div-one, div-one, div-one, div-one, add-mul-mod-self-left) (mod-eq-of-lt (b (d % 2 ^ w) (n % 2 ^ w) (m % 2 ^ w)))
+  each (suc k) (suc i) d n m h =
+      let z = pow-pos w in
+      let l = b (d % 2 ^ w) (n % 2 ^ w) (m % 2 ^ w) in
+      let e : (x : ℕ) → x / 2 ^ (w * suc i) ≡ x / 2 ^ w / 2 ^ (w * i) = λ x. rw (mul-suc, add-comm, ← shr-shr) in
+      rw (e, e, e, e, add-mul-div-left, div-eq-of-lt l, zero-add) (each k i (d / 2 ^ w) (n / 2 ^ w) (m / 2 ^ w) (le-of-suc-le-suc h))
+
+-- where the lanes fill 64 bits
+module _ (w c i : ℕ) (z : 0 < w) (p : 0 < i) (q : i ≤ c) (e : w * c ≡ 64) where
+  pub at-lt : w * (i - 1) < 64
+  at-lt = let h : w * (i - 1) < w * c = mul-lt-mul-of-pos-left (omega arith) z in omega arith
+
+  pub room : w * (c - i) ≤ 64 - w
+  room =
+      let g : c ≡ (c - i) + i = omega arith in
+      let s : w * c ≡ w * (c - i) + w * i = ap (λ (n : ℕ). w * n) g ∙ mul-add w (c - i) i in
+      let h : w * 1 ≤ w * i = mul-le-mul-left w p in
+      omega arith
