@@ -6,7 +6,10 @@ use native.Mathlib.Nat.{mul-suc, mul-zero, add-zero, zero-add, suc-add, mul-asso
 use native.Mathlib.Omega.{arith}
 use lib.Pow.{pow-pos, pow-add, shr-shr}
 use lib.Arith.{lt-one, digits-lt}
-use Rattle.lanes.specs.Lane.{lanewise}
+use lib.Dec.{lit<, lit≤}
+use Rattle.lanes.specs.declared.Width.{Width}
+use Rattle.lanes.specs.declared.Width.the-variants.{B8, B16, B32, B64}
+use Rattle.lanes.specs.Lane.{lanewise, bitsOf}
 
 -- 2^(w × (j+1)) is 2^w × 2^(w × j)
 pow-suc : (w j : ℕ) → 2 ^ (w * suc j) ≡ 2 ^ w * 2 ^ (w * j)
@@ -51,27 +54,23 @@ module _ (f : ℕ → ℕ → ℕ → ℕ) (w : ℕ) where
 
   -- one more lane, at the low end: what a turn of the loop does
   pub next : (c i d n m : ℕ) → 0 < i → i ≤ c
-      → f (d / 2 ^ (w * (i - 1)) % 2 ^ w) (n / 2 ^ (w * (i - 1)) % 2 ^ w) (m / 2 ^ (w * (i - 1)) % 2 ^ w) + 2 ^ w * lanewise f w (c - i) (d / 2 ^ (w * i)) (n / 2 ^ (w * i)) (m / 2 ^ (w * i))
-      ≡ lanewise f w (c - (i - 1)) (d / 2 ^ (w * (i - 1))) (n / 2 ^ (w * (i - 1))) (m / 2 ^ (w * (i - 1)))
+      → 2 ^ (w * i) * lanewise f w (c - i) (d / 2 ^ (w * i)) (n / 2 ^ (w * i)) (m / 2 ^ (w * i))
+      + 2 ^ (w * (i - 1)) * f (d / 2 ^ (w * (i - 1)) % 2 ^ w) (n / 2 ^ (w * (i - 1)) % 2 ^ w) (m / 2 ^ (w * (i - 1)) % 2 ^ w)
+      ≡ 2 ^ (w * (i - 1)) * lanewise f w (c - (i - 1)) (d / 2 ^ (w * (i - 1))) (n / 2 ^ (w * (i - 1))) (m / 2 ^ (w * (i - 1)))
   unfolding lanewise
   next c zero d n m p q = absurd (not-suc-le-zero p)
   next c (suc j) d n m p q =
       let e : suc j - 1 ≡ j = omega arith in
       let g : c - j ≡ suc (c - suc j) = omega arith in
-      rw (e, g, shr-shr, shr-shr, shr-shr, mul-suc)
+      rw (e, g, shr-shr, shr-shr, shr-shr, ← mul-suc, pow-suc, mul-comm (2 ^ w) (2 ^ (w * j)), mul-assoc, ← mul-add, add-comm)
 
   -- the loop's two ends
-  pub first : (c d n m : ℕ) → 0 ≡ lanewise f w (c - c) d n m
+  pub first : (c d n m : ℕ) → 0 ≡ 2 ^ (w * c) * lanewise f w (c - c) d n m
   unfolding lanewise
-  first c d n m = rw sub-self
+  first c d n m = rw (sub-self, mul-zero)
 
-  pub last : (c i d n m : ℕ) → i ≡ 0 → lanewise f w (c - i) (d / 2 ^ (w * i)) (n / 2 ^ (w * i)) (m / 2 ^ (w * i)) ≡ lanewise f w c d n m
-  last c i d n m e = rw (e, sub-zero, mul-zero, div-one, div-one, div-one)
-
-  -- one lane is the whole number
-  pub single : (d n m : ℕ) → d < 2 ^ w → n < 2 ^ w → m < 2 ^ w → lanewise f w 1 d n m ≡ f d n m
-  unfolding lanewise
-  single d n m p q r = rw (mod-eq-of-lt p, mod-eq-of-lt q, mod-eq-of-lt r, mul-zero, add-zero)
+  pub last : (c i d n m : ℕ) → i ≡ 0 → 2 ^ (w * i) * lanewise f w (c - i) (d / 2 ^ (w * i)) (n / 2 ^ (w * i)) (m / 2 ^ (w * i)) ≡ lanewise f w c d n m
+  last c i d n m e = rw (e, sub-zero, mul-zero, div-one, div-one, div-one, one-mul)
 
 -- where f gives a lane
 module _ (f : ℕ → ℕ → ℕ → ℕ) (w : ℕ) (b : (d n m : ℕ) → f d n m < 2 ^ w) where
@@ -96,14 +95,24 @@ module _ (f : ℕ → ℕ → ℕ → ℕ) (w : ℕ) (b : (d n m : ℕ) → f d 
       let e : (x : ℕ) → x / 2 ^ (w * suc i) ≡ x / 2 ^ w / 2 ^ (w * i) = λ x. rw (mul-suc, add-comm, ← shr-shr) in
       rw (e, e, e, e, add-mul-div-left, div-eq-of-lt l, zero-add) (each k i (d / 2 ^ w) (n / 2 ^ w) (m / 2 ^ w) (le-of-suc-le-suc h))
 
--- where the lanes fill 64 bits
-module _ (w c i : ℕ) (z : 0 < w) (p : 0 < i) (q : i ≤ c) (e : w * c ≡ 64) where
-  pub at-lt : w * (i - 1) < 64
-  at-lt = let h : w * (i - 1) < w * c = mul-lt-mul-of-pos-left (omega arith) z in omega arith
+-- where the lanes fill 64 bits: the next lane's place, and room for it below what is done
+module _ (w c i : ℕ) (p : 0 < i) (q : i ≤ c) (e : w * c ≡ 64) where
+  last-bit : w * (i - 1) + w ≡ w * i
+  last-bit = let g : i ≡ suc (i - 1) = omega arith in sym (mul-suc w (i - 1)) ∙ ap (λ (n : ℕ). w * n) (sym g)
 
-  pub room : w * (c - i) ≤ 64 - w
-  room =
-      let g : c ≡ (c - i) + i = omega arith in
-      let s : w * c ≡ w * (c - i) + w * i = ap (λ (n : ℕ). w * n) g ∙ mul-add w (c - i) i in
-      let h : w * 1 ≤ w * i = mul-le-mul-left w p in
-      omega arith
+  pub at-most : w * (i - 1) + w ≤ 64
+  at-most = let h : w * i ≤ w * c = mul-le-mul-left w q in omega (arith, last-bit)
+
+  pub room : (r : ℕ) → r < 2 ^ (w * (c - i)) → 2 ^ (w * i) * r + 2 ^ (w * (i - 1) + w) ≤ 2 ^ 64
+  room r l =
+      let g : i + (c - i) ≡ c = omega arith in
+      let s : 2 ^ (w * i) * 2 ^ (w * (c - i)) ≡ 2 ^ 64 = sym (pow-add 2 (w * i) (w * (c - i))) ∙ ap (λ (n : ℕ). 2 ^ n) (sym (mul-add w i (c - i)) ∙ ap (λ (n : ℕ). w * n) g ∙ e) in
+      let h : 2 ^ (w * i) * suc r ≤ 2 ^ (w * i) * 2 ^ (w * (c - i)) = mul-le-mul-left (2 ^ (w * i)) l in
+      rw last-bit (omega (arith, mul-suc (2 ^ (w * i)) r))
+
+-- the widths fill 64 bits
+pub fill : (w : Width) (b : ℕ) → b ≡ bitsOf w → (0 < b) × (b ≤ 64) × (b * (64 / b) ≡ 64)
+fill B8 b e = rw e (lit< tt, lit≤ tt, refl)
+fill B16 b e = rw e (lit< tt, lit≤ tt, refl)
+fill B32 b e = rw e (lit< tt, lit≤ tt, refl)
+fill B64 b e = rw e (lit< tt, lit≤ tt, refl)

@@ -3,11 +3,10 @@
 use mathlib.Core.Path.{_≡_, refl, sym, _∙_, ap, subst}
 use mathlib.Core.Bool.{Bool, true, false}
 use Prim.Native.Nat.{ℕ, _+_, _-_, _*_, _/_, _%_, _^_, _≤_, _<_}
-use native.Mathlib.Nat.{mul-add, add-mul, mul-assoc, mul-right-comm, mul-mul-mul-comm, mod-eq-of-lt, mod-lt, mod-add-mod, add-mod-mod, add-mod-right, add-mul-mod-self-right, one-mul, mul-mod-left, div-eq-of-lt, lt-of-lt-of-le, lt-of-le-of-lt, le-of-lt, mul-le-mul-left, mul-lt-mul-of-pos-right, div-add-mod'}
+use native.Mathlib.Nat.{mul-add, add-mul, mul-assoc, mul-comm, add-comm, mul-right-comm, mul-mul-mul-comm, mod-eq-of-lt, mod-lt, mod-add-mod, add-mod-mod, add-mod-right, add-mul-mod-self-right, one-mul, mul-mod-left, div-eq-of-lt, lt-of-lt-of-le, lt-of-le-of-lt, le-of-lt, mul-le-mul-left, mul-lt-mul-of-pos-right, div-add-mod'}
 use native.Mathlib.Omega.{arith}
-use lib.Arith.{digits-lt}
 use lib.Dec.{ltb}
-use lib.Pow.{shl-exact, pow-pos, pow-add, pow-lt, pow-mono, mod-mod-pow, ones-split, high, ones-lt}
+use lib.Pow.{shl-exact, shl-lt, pow-pos, pow-add, pow-lt, pow-mono, mod-mod-pow, ones-split, high, ones-lt}
 use borrow.Author.Tests.{ltb-true, ltb-false}
 
 -- either side of a bound
@@ -82,13 +81,12 @@ product-is x y =
     ap (λ (n : ℕ). n * y) (sym (div-add-mod' x (2 ^ 32))) ∙ ap (λ (n : ℕ). (x / 2 ^ 32 * 2 ^ 32 + x % 2 ^ 32) * n) (sym (div-add-mod' y (2 ^ 32)))
     ∙ expand (x / 2 ^ 32) (x % 2 ^ 32) (y / 2 ^ 32) (y % 2 ^ 32) (2 ^ 32)
 
--- a lane put below what fits above it
-pub pushed : (w o : ℕ) → w ≤ 64 → o < 2 ^ (64 - w) → (o * 2 ^ w) % 2 ^ 64 ≡ o * 2 ^ w
-pushed w o h p = shl-exact (64 - w) w 64 p (omega arith)
+-- a lane put at its place, and the sum with what stands above it
+pub placed : (w at r : ℕ) → at + w ≤ 64 → r < 2 ^ w → (r * 2 ^ at) % 2 ^ 64 ≡ 2 ^ at * r
+placed w at r h p = shl-exact w at 64 p (omega arith) ∙ mul-comm r (2 ^ at)
 
-pub pushed-fits : (w o r : ℕ) → w ≤ 64 → o < 2 ^ (64 - w) → r < 2 ^ w → r + (o * 2 ^ w) % 2 ^ 64 < 2 ^ 64
-pushed-fits w o r h p q =
-    let e : 64 - w + w ≡ 64 = omega arith in
-    let d = digits-lt p q in
-    let g : 2 ^ (64 - w) * 2 ^ w ≡ 2 ^ 64 = sym (pow-add 2 (64 - w) w) ∙ ap (λ (n : ℕ). 2 ^ n) e in
-    omega (arith, pushed w o h p)
+pub placed-fits : (w at r o : ℕ) → at + w ≤ 64 → r < 2 ^ w → o + 2 ^ (at + w) ≤ 2 ^ 64 → o + (r * 2 ^ at) % 2 ^ 64 < 2 ^ 64
+placed-fits w at r o h p q =
+    let e = placed w at r h p in
+    let l : 2 ^ at * r < 2 ^ (at + w) = rw (mul-comm (2 ^ at) r, add-comm at w) (shl-lt w at p) in
+    omega arith

@@ -14,7 +14,7 @@ use whole::less;
 use whole::right;
 ghost use mathlib.Core.Path.{_≡_};
 ghost use Prim.Native.Nat.{ℕ, _+_, _-_, _*_, _/_, _%_, _^_, _<_, _≤_};
-ghost use Rattle.lanes.specs.Lane.{laneOf, lanewise, lanesOf};
+ghost use Rattle.lanes.specs.Lane.{laneOf, bitsOf, lanesOf};
 
 // The bits of a lane.
 pub enum Width {
@@ -69,36 +69,35 @@ fn lane(op: LaneOp, w: u32, d: u64, n: u64, m: u64) -> u64
     }
 }
 
-// The lane that starts at bit `at`, put below the lanes of `out`.
-fn push(op: LaneOp, w: u32, at: u32, out: u64, d: u64, n: u64, m: u64) -> u64
-    requires { ⌜ ((0 < w) × (w < 64)) × ((at < 64) × (out < 2 ^ (64 - w))) ⌝ }
-    ensures { λ r. ⌜ r ≡ laneOf op w (d / 2 ^ at % 2 ^ w) (n / 2 ^ at % 2 ^ w) (m / 2 ^ at % 2 ^ w) + 2 ^ w * out ⌝ }
+// `out` with the lane that starts at bit `at` put there.
+fn place(op: LaneOp, w: u32, at: u32, out: u64, d: u64, n: u64, m: u64) -> u64
+    requires { ⌜ ((0 < w) × (at + w ≤ 64)) × (out + 2 ^ (at + w) ≤ 2 ^ 64) ⌝ }
+    ensures { λ r. ⌜ r ≡ out + 2 ^ at * laneOf op w (d / 2 ^ at % 2 ^ w) (n / 2 ^ at % 2 ^ w) (m / 2 ^ at % 2 ^ w) ⌝ }
 {
-    lane(op, w, cut(w, d >> at), cut(w, n >> at), cut(w, m >> at)) + (out << w)
+    out + (lane(op, w, cut(w, d >> at), cut(w, n >> at), cut(w, m >> at)) << at)
 }
 
-// The operation at each of `count` lanes of w bits, from the highest down.
-fn over(op: LaneOp, w: u32, count: u32, d: u64, n: u64, m: u64) -> u64
-    requires { ⌜ ((0 < w) × (w < 64)) × (w * count ≡ 64) ⌝ }
-    ensures { λ r. ⌜ r ≡ lanewise (laneOf op w) w count d n m ⌝ }
+fn bits(w: Width) -> u32
+    ensures { λ r. ⌜ r ≡ bitsOf w ⌝ }
 {
-    let mut out: u64 = 0;
-    let mut i = count;
-    while 0 < i {
-        i -= 1;
-        out = push(op, w, w * i, out, d, n, m);
+    match w {
+        Width::B8 => 8,
+        Width::B16 => 16,
+        Width::B32 => 32,
+        Width::B64 => 64,
     }
-    out
 }
 
-// The operation at each lane of a word: d the old target, n and m the sources.
+// The operation at each lane of a word, from the highest down: d the old target, n and m the sources.
 pub fn lanes(op: LaneOp, w: Width, d: u64, n: u64, m: u64) -> u64
     ensures { λ r. ⌜ r ≡ lanesOf 64 op w d n m ⌝ }
 {
-    match w {
-        Width::B8 => over(op, 8, 8, d, n, m),
-        Width::B16 => over(op, 16, 4, d, n, m),
-        Width::B32 => over(op, 32, 2, d, n, m),
-        Width::B64 => lane(op, 64, d, n, m),
+    let b = bits(w);
+    let mut i = 64 / b;
+    let mut out: u64 = 0;
+    while 0 < i {
+        i -= 1;
+        out = place(op, b, b * i, out, d, n, m);
     }
+    out
 }
