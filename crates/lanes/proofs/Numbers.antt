@@ -33,10 +33,6 @@ cut64 n w h =
 pub add-cut64 : (d n w : ℕ) → w ≤ 64 → (d + n % 2 ^ 64) % 2 ^ w ≡ (d + n) % 2 ^ w
 add-cut64 d n w h = sym (add-mod-mod d (n % 2 ^ 64) (2 ^ w)) ∙ ap (λ (v : ℕ). (d + v) % 2 ^ w) (cut64 n w h) ∙ add-mod-mod d n (2 ^ w)
 
--- half of 2^w, as the code makes it
-pub half-is : (w : ℕ) → 0 < w → w ≤ 64 → (1 * 2 ^ (w - 1)) % 2 ^ 64 ≡ 2 ^ (w - 1)
-half-is w p q = rw one-mul (mod-eq-of-lt (pow-lt {i = w - 1} {j = 64} (omega arith)))
-
 pub twice-half : (w : ℕ) → 0 < w → 2 ^ w ≡ 2 ^ (w - 1) + 2 ^ (w - 1)
 twice-half w p =
     let e : w ≡ (w - 1) + 1 = omega arith in

@@ -3,9 +3,9 @@
 use mathlib.Core.Path.{_≡_, refl, sym, _∙_, ap}
 use mathlib.Core.Bool.{Bool, true, false, not}
 use Prim.Native.Nat.{ℕ, zero, suc, _+_, _-_, _*_, _/_, _%_, _^_, _≤_, _<_, zero-le}
-use native.Mathlib.Nat.{mod-eq-of-lt, mod-lt, mod-add-mod, add-mod-mod, add-mod-right, add-mul-mod-self-right, div-add-mod', lt-of-le-of-lt, sub-zero, add-zero}
+use native.Mathlib.Nat.{mod-eq-of-lt, mod-lt, mod-add-mod, add-mod-mod, add-mod-right, add-mul-mod-self-right, div-add-mod', lt-of-le-of-lt, sub-zero, add-zero, add-mul, suc-mul, mul-le-mul-right}
 use native.Mathlib.Omega.{arith}
-use lib.Pow.{pow-pos, shr-le, ones-lt, ones-sub-lt}
+use lib.Pow.{pow-pos, pow-add, shl-lt, shl-shr, shr-le, high, ones-lt, ones-sub-lt}
 use lib.Dec.{ltb, leb}
 use lib.IntN.{ℤ, pos, negsuc, subℕ, _-ℤ_}
 use lib.Signed.{mag, ltZ, leZ, shrZ}
@@ -110,3 +110,24 @@ right-u w x k l = mod-eq-of-lt (lt-of-le-of-lt (shr-le x k) l)
 pub shr-far : (z : ℤ) (j k : ℕ) → mag z < 2 ^ j → j ≤ k → shrZ z (2 ^ j) ≡ shrZ z (2 ^ k)
 shr-far (pos n) j k l h = rw (shr-out n j j l (omega arith), shr-out n j k l h)
 shr-far (negsuc n) j k l h = rw (shr-out n j j l (omega arith), shr-out n j k l h)
+
+-- a lane moved to the top of a word, read there, and shifted back
+pub extended : (w x : ℕ) → 0 < w → w ≤ 64 → x < 2 ^ w → shrZ (readAs Signed 64 (x * 2 ^ (64 - w))) (2 ^ (64 - w)) ≡ readAs Signed w x
+extended w x z h l =
+    let j = 64 - w in
+    let e : w - 1 + (64 - w) ≡ 63 = omega arith in
+    let g : w + (64 - w) ≡ 64 = omega arith in
+    let top : 2 ^ (w - 1) * 2 ^ (64 - w) ≡ 2 ^ 63 = sym (pow-add 2 (w - 1) j) ∙ ap (λ (n : ℕ). 2 ^ n) e in
+    let all : 2 ^ w * 2 ^ (64 - w) ≡ 2 ^ 64 = sym (pow-add 2 w j) ∙ ap (λ (n : ℕ). 2 ^ n) g in
+    sides (2 ^ (w - 1)) x
+    (λ b. let a : x * 2 ^ (64 - w) < 2 ^ 63 = rw e at (shl-lt (w - 1) j b) in
+    rw (read-low 64 (x * 2 ^ (64 - w)) a, shl-shr x j, read-low w x b))
+    (λ b. let a : 2 ^ 63 ≤ x * 2 ^ (64 - w) = rw top at (mul-le-mul-right (2 ^ j) b) in
+    let c : x * 2 ^ (64 - w) < 2 ^ 64 = rw g at (shl-lt w j l) in
+    let y = 2 ^ w - 1 - x in
+    let s : 2 ^ w ≡ suc (2 ^ w - 1 - x) + x = omega arith in
+    let t : 2 ^ w * 2 ^ (64 - w) ≡ (2 ^ w - 1 - x) * 2 ^ (64 - w) + 2 ^ (64 - w) + x * 2 ^ (64 - w) =
+    ap (λ (n : ℕ). n * 2 ^ (64 - w)) s ∙ add-mul (suc y) x (2 ^ j) ∙ ap (λ (n : ℕ). n + x * 2 ^ (64 - w)) (suc-mul y (2 ^ j)) in
+    let o = pow-pos j in
+    let d : 18446744073709551615 - x * 2 ^ (64 - w) ≡ (2 ^ w - 1 - x) * 2 ^ (64 - w) + (2 ^ (64 - w) - 1) = omega arith in
+    rw (read-high 64 (x * 2 ^ (64 - w)) c a, d, high y j (ones-lt j), read-high w x l b))

@@ -14,31 +14,21 @@ use mir.Val.{toZ, ofZ, SFits}
 use mir.ValLaws.{toZ-ofZ, toZ-pos, toZ-neg, sfits-le}
 use Rattle.lanes.specs.declared.Sign.the-variants.{Signed}
 use Rattle.lanes.specs.Lane.{readAs}
-use Rattle.lanes.proofs.Numbers.{twice-half}
 use Rattle.lanes.proofs.Signs.{read-low, read-high, read-fits}
 
 half-le : (w : ℕ) → w ≤ 64 → 2 ^ (w - 1) ≤ 2 ^ 63
 half-le w h = pow-mono {i = w - 1} {j = 63} (omega arith)
 
+-- a word from 2^63 on, as the code makes it an i64
+pub low-is : (x : ℕ) → x < 2 ^ 63 → toZ w64 x ≡ readAs Signed 64 x
+low-is x l = toZ-pos w64 x l ∙ sym (read-low 64 x l)
+
+pub high-is : (x : ℕ) → x < 2 ^ 64 → 2 ^ 63 ≤ x → toZ w64 (18446744073709551615 - (18446744073709551615 - x)) ≡ readAs Signed 64 x
+high-is x b l =
+    let e : 18446744073709551615 - (18446744073709551615 - x) ≡ 18446744073709551616 - suc (18446744073709551615 - x) = omega arith in
+    ap (λ (n : ℕ). toZ w64 n) e ∙ toZ-neg w64 (18446744073709551615 - x) (omega arith) ∙ sym (read-high 64 x b l)
+
 module _ (w x : ℕ) (z : 0 < w) (h : w ≤ 64) where
-  -- a lane below the half, and one from the half on, as the code makes it an i64
-  pub low-fits : x < 2 ^ (w - 1) → x < 2 ^ 63
-  low-fits l = lt-of-lt-of-le l (half-le w h)
-
-  pub low-is : x < 2 ^ (w - 1) → toZ w64 x ≡ readAs Signed w x
-  low-is l = toZ-pos w64 x (low-fits l) ∙ sym (read-low w x l)
-
-  pub high-fits : x < 2 ^ w → 2 ^ (w - 1) ≤ x → 2 ^ w - 1 - x < 2 ^ 63
-  high-fits b l = let t = twice-half w z in
-      let k = half-le w h in
-      omega arith
-
-  pub high-is : x < 2 ^ w → 2 ^ (w - 1) ≤ x → toZ w64 (18446744073709551615 - (2 ^ w - 1 - x)) ≡ readAs Signed w x
-  high-is b l =
-      let f = high-fits b l in
-      let e : 18446744073709551615 - (2 ^ w - 1 - x) ≡ 18446744073709551616 - suc (2 ^ w - 1 - x) = omega arith in
-      ap (λ (n : ℕ). toZ w64 n) e ∙ toZ-neg w64 (2 ^ w - 1 - x) f ∙ sym (read-high w x b l)
-
   -- a signed lane is an i64 for every width, and so is what a right shift leaves of it
   pub lane-fits : x < 2 ^ w → SFits w64 (readAs Signed w x)
   lane-fits b = record { sfits = lt-of-lt-of-le (read-fits w x z b) (half-le w h) }
