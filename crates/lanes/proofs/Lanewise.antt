@@ -1,15 +1,16 @@
 -- The laws of lane-wise operations, each over the width w.
 -- Assumes nothing.
 use mathlib.Core.Path.{_≡_, refl, sym, _∙_, ap}
-use Prim.Native.Nat.{ℕ, zero, suc, _+_, _-_, _*_, _/_, _%_, _^_, _≤_, _<_}
-use native.Mathlib.Nat.{mul-suc, mul-zero, add-zero, zero-add, suc-add, mul-assoc, mul-comm, mul-add, add-assoc, add-comm, add-mul-mod-self-left, add-mul-div-left, div-lt-iff-lt-mul, div-eq-of-lt, mod-eq-of-lt, mod-lt, one-mul, not-suc-le-zero, le-of-suc-le-suc, mul-le-mul-left, mul-lt-mul-of-pos-left, sub-zero, sub-self, div-one}
+use Prim.Native.Nat.{ℕ, zero, suc, _+_, _-_, _*_, _/_, _%_, _^_, _≤_, _<_, zero-le, suc-le-suc}
+use native.Mathlib.Nat.{mul-suc, mul-zero, zero-add, suc-add, mul-assoc, mul-comm, mul-add, add-assoc, add-comm, add-mul-mod-self-left, add-mul-div-left, div-lt-iff-lt-mul, div-eq-of-lt, mod-eq-of-lt, mod-lt, mod-one, one-mul, not-suc-le-zero, le-of-suc-le-suc, mul-le-mul-left, sub-zero, sub-self, div-one}
 use native.Mathlib.Omega.{arith}
-use lib.Pow.{pow-pos, pow-add, shr-shr}
+use lib.Pow.{pow-pos, pow-add, shr-shr, mod-pow-add}
 use lib.Arith.{lt-one, digits-lt}
 use lib.Dec.{lit<, lit≤}
 use Rattle.lanes.specs.declared.Width.{Width}
 use Rattle.lanes.specs.declared.Width.the-variants.{B8, B16, B32, B64}
 use Rattle.lanes.specs.Lane.{lanewise, bitsOf}
+use Rattle.lanes.specs.Promises.{laneAt}
 
 -- 2^(w × (j+1)) is 2^w × 2^(w × j)
 pow-suc : (w j : ℕ) → 2 ^ (w * suc j) ≡ 2 ^ w * 2 ^ (w * j)
@@ -27,6 +28,13 @@ module _ (w j : ℕ) where
 
 zero-sum : (w a b : ℕ) → a < 2 ^ (w * 0) → a + 2 ^ (w * 0) * b ≡ b
 zero-sum w a b h = rw (lt-one (rw mul-zero at h), mul-zero, one-mul, zero-add)
+
+-- lane 0, and the lanes above it
+at-zero : (w x : ℕ) → laneAt w 0 x ≡ x % 2 ^ w
+at-zero w x = rw (mul-zero, div-one)
+
+at-suc : (w i x : ℕ) → laneAt w (suc i) x ≡ laneAt w i (x / 2 ^ w)
+at-suc w i x = rw (mul-suc, add-comm, ← shr-shr)
 
 module _ (f : ℕ → ℕ → ℕ → ℕ) (w : ℕ) where
   -- lanes on both sides of a lane boundary are taken apart there
@@ -83,17 +91,35 @@ module _ (f : ℕ → ℕ → ℕ → ℕ) (w : ℕ) (b : (d n m : ℕ) → f d 
       rw (pow-suc, mul-comm (2 ^ w), add-comm, mul-comm (2 ^ w)) q
 
   -- lane i of the result comes from lane i of each operand
-  pub each : (k i d n m : ℕ) → i < k
-      → lanewise f w k d n m / 2 ^ (w * i) % 2 ^ w ≡ f (d / 2 ^ (w * i) % 2 ^ w) (n / 2 ^ (w * i) % 2 ^ w) (m / 2 ^ (w * i) % 2 ^ w)
+  pub each : (k i d n m : ℕ) → i < k → laneAt w i (lanewise f w k d n m) ≡ f (laneAt w i d) (laneAt w i n) (laneAt w i m)
   unfolding lanewise
   each zero i d n m h = absurd (not-suc-le-zero h)
-  each (suc k) zero d n m h =
-      rw (mul-zero, div-one, div-one, div-one, div-one, add-mul-mod-self-left) (mod-eq-of-lt (b (d % 2 ^ w) (n % 2 ^ w) (m % 2 ^ w)))
+  each (suc k) zero d n m h = rw (at-zero, at-zero, at-zero, at-zero, add-mul-mod-self-left) (mod-eq-of-lt (b (d % 2 ^ w) (n % 2 ^ w) (m % 2 ^ w)))
   each (suc k) (suc i) d n m h =
       let z = pow-pos w in
       let l = b (d % 2 ^ w) (n % 2 ^ w) (m % 2 ^ w) in
-      let e : (x : ℕ) → x / 2 ^ (w * suc i) ≡ x / 2 ^ w / 2 ^ (w * i) = λ x. rw (mul-suc, add-comm, ← shr-shr) in
-      rw (e, e, e, e, add-mul-div-left, div-eq-of-lt l, zero-add) (each k i (d / 2 ^ w) (n / 2 ^ w) (m / 2 ^ w) (le-of-suc-le-suc h))
+      rw (at-suc, at-suc, at-suc, at-suc, add-mul-div-left, div-eq-of-lt l, zero-add) (each k i (d / 2 ^ w) (n / 2 ^ w) (m / 2 ^ w) (le-of-suc-le-suc h))
+
+-- results that agree at every lane are the same
+pub same : (f g : ℕ → ℕ → ℕ → ℕ) (w k d n m d′ n′ m′ : ℕ)
+    → ((i : ℕ) → i < k → f (laneAt w i d) (laneAt w i n) (laneAt w i m) ≡ g (laneAt w i d′) (laneAt w i n′) (laneAt w i m′))
+    → lanewise f w k d n m ≡ lanewise g w k d′ n′ m′
+unfolding lanewise
+same f g w zero d n m d′ n′ m′ h = refl
+same f g w (suc k) d n m d′ n′ m′ h =
+    let e = simp at-zero at (h 0 (suc-le-suc zero-le)) in
+    rw (
+      e,
+      same f g w k (d / 2 ^ w) (n / 2 ^ w) (m / 2 ^ w) (d′ / 2 ^ w) (n′ / 2 ^ w) (m′ / 2 ^ w) (λ i l. simp at-suc at (h (suc i) (suc-le-suc l))),
+    )
+
+-- lanes that are left as they are
+pub kept : (f : ℕ → ℕ → ℕ → ℕ) (w : ℕ) → ((d n m : ℕ) → n < 2 ^ w → f d n m ≡ n) → (k d n m : ℕ) → lanewise f w k d n m ≡ n % 2 ^ (w * k)
+unfolding lanewise
+kept f w h zero d n m = rw mul-zero (sym (mod-one n))
+kept f w h (suc k) d n m =
+    rw (h (d % 2 ^ w) (n % 2 ^ w) (m % 2 ^ w) (mod-lt _ (pow-pos w)), kept f w h k (d / 2 ^ w) (n / 2 ^ w) (m / 2 ^ w), mul-suc, mod-pow-add n (w * k) w)
+    (add-comm (n % 2 ^ w) _ ∙ ap (λ (x : ℕ). x + n % 2 ^ w) (mul-comm (2 ^ w) (n / 2 ^ w % 2 ^ (w * k))))
 
 -- where the lanes fill 64 bits: the next lane's place, and room for it below what is done
 module _ (w c i : ℕ) (p : 0 < i) (q : i ≤ c) (e : w * c ≡ 64) where

@@ -3,10 +3,10 @@
 use mathlib.Core.Path.{_≡_, refl, sym, _∙_, ap, subst}
 use mathlib.Core.Bool.{Bool, true, false}
 use Prim.Native.Nat.{ℕ, _+_, _-_, _*_, _/_, _%_, _^_, _≤_, _<_}
-use native.Mathlib.Nat.{mul-add, add-mul, mul-assoc, mul-comm, add-comm, mul-right-comm, mul-mul-mul-comm, mod-eq-of-lt, mod-lt, mod-add-mod, add-mod-mod, add-mod-right, add-mul-mod-self-right, one-mul, mul-mod-left, div-eq-of-lt, lt-of-lt-of-le, lt-of-le-of-lt, le-of-lt, mul-le-mul-left, mul-lt-mul-of-pos-right, div-add-mod'}
+use native.Mathlib.Nat.{mul-add, add-mul, mul-assoc, mul-comm, add-comm, mul-right-comm, mul-mul-mul-comm, mod-lt, mod-add-mod, add-mod-mod, add-mod-right, add-mul-mod-self-right, mul-mod-left, div-eq-of-lt, lt-of-lt-of-le, lt-of-le-of-lt, le-of-lt, mul-le-mul-left, mul-lt-mul-of-pos-right, div-add-mod'}
 use native.Mathlib.Omega.{arith}
 use lib.Dec.{ltb}
-use lib.Pow.{shl-exact, shl-lt, pow-pos, pow-add, pow-lt, pow-mono, mod-mod-pow, ones-split, high, ones-lt}
+use lib.Pow.{shl-exact, shl-lt, pow-pos, pow-add, pow-mono, mod-mod-pow, ones-split, high, ones-lt}
 use borrow.Author.Tests.{ltb-true, ltb-false}
 
 -- either side of a bound

@@ -1,18 +1,20 @@
 -- The proofs of what specs/Promises.antt states.
 -- Assumes nothing.
-use mathlib.Core.Path.{_≡_}
-use Prim.Native.Nat.{ℕ, _*_, _/_, _^_, _<_}
+use mathlib.Core.Path.{refl}
+use Prim.Native.Nat.{_/_}
+use native.Mathlib.Nat.{lt-of-lt-of-le, mul-div-le}
+use lib.Pow.{pow-mono}
 use Rattle.lanes.specs.declared.Width.the-variants.{B8, B16, B32, B64}
-use Rattle.lanes.specs.Lane.{laneOf, lanesOf, exact}
-use Rattle.lanes.specs.Promises.{EachLane, Split, Row, LaneBelow, WordBelow, ReadBack}
+use Rattle.lanes.specs.Lane.{readAs, modulo, greater, lesser, onesIf, exact, laneOf, lanewise, bitsOf, lanesOf}
+use Rattle.lanes.specs.Promises.{EachLane, Split, Row, LaneBelow, LanesBelow, ReadBack, Worked}
 use Rattle.lanes.proofs.Signs as signs
-use Rattle.lanes.proofs.Lanewise as lanewise
+use Rattle.lanes.proofs.Lanewise as laws
 
 pub eachLane : EachLane
-eachLane = lanewise.each
+eachLane = laws.each
 
 pub split : Split
-split = lanewise.split
+split = laws.split
 
 pub row : Row
 unfolding lanesOf
@@ -25,12 +27,15 @@ pub laneBelow : LaneBelow
 unfolding laneOf
 laneBelow op w d n m = signs.modulo-lt w (exact op w d n m)
 
-pub wordBelow : WordBelow
+pub lanesBelow : LanesBelow
 unfolding lanesOf
-wordBelow op B8 = lanewise.lanes-lt (laneOf op 8) 8 (laneBelow op 8) 8
-wordBelow op B16 = lanewise.lanes-lt (laneOf op 16) 16 (laneBelow op 16) 4
-wordBelow op B32 = lanewise.lanes-lt (laneOf op 32) 32 (laneBelow op 32) 2
-wordBelow op B64 = lanewise.lanes-lt (laneOf op 64) 64 (laneBelow op 64) 1
+lanesBelow size op w d n m =
+    let b = bitsOf w in
+    lt-of-lt-of-le (laws.lanes-lt (laneOf op b) b (laneBelow op b) (size / b) d n m) (pow-mono (mul-div-le size b))
 
 pub readBack : ReadBack
-readBack s w x z l = signs.again s w x l
+readBack = signs.again
+
+pub worked : Worked
+unfolding readAs modulo greater lesser onesIf laneOf lanewise lanesOf
+worked = (refl, refl, refl, refl, refl, refl, refl, refl, refl, refl, refl, refl, refl, refl, refl, refl, refl, refl)

@@ -6,14 +6,13 @@ use Prim.Native.Nat.{ℕ, zero, suc, _+_, _-_, _*_, _/_, _%_, _^_, _≤_, _<_, z
 use native.Mathlib.Nat.{mod-eq-of-lt, mod-lt, mod-add-mod, add-mod-mod, add-mod-right, add-mul-mod-self-right, div-add-mod', lt-of-le-of-lt, sub-zero, add-zero, add-mul, suc-mul, mul-le-mul-right}
 use native.Mathlib.Omega.{arith}
 use lib.Pow.{pow-pos, pow-add, shl-lt, shl-shr, shr-le, high, ones-lt, ones-sub-lt}
-use lib.Dec.{ltb, leb}
 use lib.IntN.{ℤ, pos, negsuc, subℕ, _-ℤ_}
 use lib.Signed.{mag, ltZ, leZ, shrZ}
 use borrow.Author.Tests.{lt-ltb, le-ltb, le-leb, lt-leb}
 use Rattle.laws.specs.Choice.{choose}
 use Rattle.lanes.specs.declared.Sign.{Sign}
 use Rattle.lanes.specs.declared.Sign.the-variants.{Unsigned, Signed}
-use Rattle.lanes.specs.Lane.{readAs, modulo, greater, lesser, onesIf}
+use Rattle.lanes.specs.Lane.{readAs, modulo, onesIf}
 use Rattle.lanes.proofs.Numbers.{sides, cut64, twice-half, cancel, shr-out}
 
 -- a whole number modulo 2^w is a lane

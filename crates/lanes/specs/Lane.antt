@@ -1,4 +1,5 @@
--- What an operation does to one lane of w bits, and to each lane of a number. Lane 0 is the lowest. From ARM DDI 0406C, A8.8.
+-- What an operation does to one lane of w bits, and to each lane of a number. Lane 0 is the lowest.
+-- From ARM DDI 0406C, A8.8; an operation has its instruction's name, without the v and the type.
 -- Assumes nothing.
 use Prim.Native.Nat.{ℕ, zero, suc, _+_, _-_, _*_, _/_, _%_, _^_}
 use mathlib.Core.Bool.{Bool, not}
@@ -24,6 +25,7 @@ unfoldable pub modulo : ℕ → ℤ → ℕ
 modulo w (pos n) = n % 2 ^ w
 modulo w (negsuc n) = 2 ^ w - 1 - n % 2 ^ w
 
+-- the greater and the lesser of two whole numbers
 unfoldable pub greater : ℤ → ℤ → ℤ
 greater a b = choose (ltZ a b) b a
 
@@ -34,8 +36,8 @@ lesser a b = choose (ltZ a b) a b
 unfoldable pub onesIf : Bool → ℕ → ℤ
 onesIf t w = choose t (pos (2 ^ w - 1)) (pos 0)
 
--- The exact whole number for a lane: d of the old target, n and m of the two sources. A shift reads n alone;
--- shrZ rounds down, so that a right shift by w or more gives 0, or -1 for a negative lane.
+-- The exact whole number for a lane: d is the old target's lane, n and m are the sources'. A shift reads n alone.
+-- shrZ rounds down, so a right shift by w or more gives 0, or -1 for a negative lane.
 abbrev pub exact : LaneOp → ℕ → ℕ → ℕ → ℕ → ℤ
 exact Add w d n m = pos n +ℤ pos m
 exact Sub w d n m = pos n -ℤ pos m
@@ -51,11 +53,11 @@ exact Tst w d n m = onesIf (not (eqb (bitAnd n m) 0)) w
 exact (Shl k) w d n m = pos n *ℤ pos (2 ^ k)
 exact (Shr s k) w d n m = shrZ (readAs s w n) (2 ^ k)
 
--- the lane that is left: w bits hold it modulo 2^w
+-- the lane that is left of it
 unfoldable pub laneOf : LaneOp → ℕ → ℕ → ℕ → ℕ → ℕ
 laneOf op w d n m = modulo w (exact op w d n m)
 
--- f at each of k lanes of w bits: at lane 0, and above it at the lanes that are left
+-- f at each of k lanes of w bits: at lane 0, and above it at the k - 1 lanes that are left
 unfoldable pub lanewise : (ℕ → ℕ → ℕ → ℕ) → ℕ → ℕ → ℕ → ℕ → ℕ → ℕ
 lanewise f w zero d n m = 0
 lanewise f w (suc k) d n m = f (d % 2 ^ w) (n % 2 ^ w) (m % 2 ^ w) + 2 ^ w * lanewise f w k (d / 2 ^ w) (n / 2 ^ w) (m / 2 ^ w)

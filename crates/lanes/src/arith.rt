@@ -1,6 +1,6 @@
 // Numbers of w bits from 0: sums, differences and products that wrap, and the left shift.
 ghost use mathlib.Core.Path.{_≡_};
-ghost use Prim.Native.Nat.{ℕ, _+_, _-_, _*_, _/_, _%_, _^_, _<_, _≤_};
+ghost use Prim.Native.Nat.{_+_, _-_, _*_, _/_, _%_, _^_, _<_, _≤_};
 ghost use lib.IntN.{pos, _-ℤ_};
 ghost use Rattle.lanes.specs.Lane.{modulo, onesIf};
 

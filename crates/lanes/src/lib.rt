@@ -13,7 +13,7 @@ use whole::least;
 use whole::less;
 use whole::right;
 ghost use mathlib.Core.Path.{_≡_};
-ghost use Prim.Native.Nat.{ℕ, _+_, _-_, _*_, _/_, _%_, _^_, _<_, _≤_};
+ghost use Prim.Native.Nat.{_+_, _-_, _*_, _/_, _%_, _^_, _<_, _≤_};
 ghost use Rattle.lanes.specs.Lane.{laneOf, bitsOf, lanesOf};
 
 // The bits of a lane.

@@ -3,7 +3,7 @@ use crate::Sign;
 use crate::arith::cut;
 use crate::arith::ones;
 ghost use mathlib.Core.Path.{_≡_};
-ghost use Prim.Native.Nat.{ℕ, _^_, _<_, _≤_};
+ghost use Prim.Native.Nat.{_^_, _<_, _≤_};
 ghost use lib.Signed.{ltZ, shrZ};
 ghost use Rattle.lanes.specs.declared.Sign.the-variants.{Signed};
 ghost use Rattle.lanes.specs.Lane.{readAs, modulo, greater, lesser};

@@ -1,7 +1,9 @@
+use mathlib.Core.Path.{_∙_, ap}
+use mathlib.Core.Bool.{Bool, not}
 use Prim.Native.Nat.{_*_}
 use native.Mathlib.Omega.{arith}
 use borrow.Author.Needs.{needs}
-use Rattle.lanes.specs.Lane.{readAs, modulo, laneOf}
+use Rattle.lanes.specs.Lane.{readAs, modulo, onesIf, laneOf}
 use Rattle.lanes.proofs.Numbers.{cut64, add-cut64}
 use Rattle.lanes.proofs.Signs.{minus-cut64, le-not-lt}
 use Rattle.lanes.proofs.lane.Statement.{statement}
@@ -53,10 +55,12 @@ lane-spec =
     rw (c .before .before .enum-told5 .given .1) (cc (minus-cut64 (a .w) (a .d) (a .n * a .m) (omega arith))))
     (λ c. rw (c .before .before .op .given .1) (c .greatest .ensures))
     (λ c. rw (c .before .before .op2 .given .1) (c .least .ensures))
-    (λ c. rw (c .before .before .before .op3 .given .1, ← c .before .less .ensures) (c .ones-if .ensures))
+    (λ c. let w = c .before .before .before .before .before .args .w in
+    rw (c .before .before .before .op3 .given .1) (c .ones-if .ensures ∙ ap (λ (t : Bool). modulo w (onesIf t w)) (c .before .less .ensures)))
     (λ c. let a = c .before .before .before .before .before .args in
     let o = c .before .before .before .op4 .given in
-    rw (o .1, le-not-lt (readAs (o .0 .0) (a .w) (a .n)) (readAs (o .0 .0) (a .w) (a .m)), ← c .before .less2 .ensures) (c .ones-if2 .ensures))
+    rw (o .1, le-not-lt (readAs (o .0 .0) (a .w) (a .n)) (readAs (o .0 .0) (a .w) (a .m)))
+    (c .ones-if2 .ensures ∙ ap (λ (t : Bool). modulo (a .w) (onesIf (not t) (a .w))) (c .before .less2 .ensures)))
     (λ c. rw (c .before .enum-told6 .given .1) (c .ones-if3 .ensures))
     (λ c. rw (c .before .enum-told7 .given .1) (c .ones-if4 .ensures))
     (λ c. rw (c .before .before .op5 .given .1) (c .left .ensures))

@@ -1,7 +1,6 @@
 use mathlib.Core.Path.{sym, _∙_, ap}
 use Prim.Native.Nat.{_^_}
 use native.Mathlib.Omega.{arith}
-use native.Mathlib.Nat.{lt-of-lt-of-le}
 use lib.IntN.{ℤ}
 use lib.Signed.{shrZ}
 use mir.Syntax.{w64}
