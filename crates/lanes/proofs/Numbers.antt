@@ -17,6 +17,7 @@ sides {P} h x f g = by (ltb x h) refl
     by true e = f (ltb-true x h e)
     by false e = g (ltb-false x h e)
 
+-- a word of ones, shifted right until w are left
 pub ones-shr : (w : ℕ) → w ≤ 64 → (2 ^ 64 - 1) / 2 ^ (64 - w) ≡ 2 ^ w - 1
 ones-shr w h =
     let e : 64 ≡ w + (64 - w) = omega arith in
@@ -33,6 +34,7 @@ cut64 n w h =
 pub add-cut64 : (d n w : ℕ) → w ≤ 64 → (d + n % 2 ^ 64) % 2 ^ w ≡ (d + n) % 2 ^ w
 add-cut64 d n w h = sym (add-mod-mod d (n % 2 ^ 64) (2 ^ w)) ∙ ap (λ (v : ℕ). (d + v) % 2 ^ w) (cut64 n w h) ∙ add-mod-mod d n (2 ^ w)
 
+-- 2^w is twice its half
 pub twice-half : (w : ℕ) → 0 < w → 2 ^ w ≡ 2 ^ (w - 1) + 2 ^ (w - 1)
 twice-half w p =
     let e : w ≡ (w - 1) + 1 = omega arith in

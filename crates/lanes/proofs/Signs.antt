@@ -83,9 +83,9 @@ pub again : (s : Sign) (w x : ℕ) → x < 2 ^ w → modulo w (readAs s w x) ≡
 unfolding modulo readAs
 again Unsigned w x l = mod-eq-of-lt l
 again Signed w x l =
-    sides (2 ^ (w - 1)) x (λ h. rw (lt-ltb x (2 ^ (w - 1)) h) (mod-eq-of-lt l))
-    (λ h. let e : 2 ^ w - suc x < 2 ^ w = omega arith in
-    rw (le-ltb x (2 ^ (w - 1)) h, minus-is x (2 ^ w), lt-ltb x (2 ^ w) l, mod-eq-of-lt e) (omega arith))
+    sides (2 ^ (w - 1)) x (λ h. rw (read-low w x h) (mod-eq-of-lt l))
+    (λ h. let e : 2 ^ w - 1 - x < 2 ^ w = omega arith in
+    rw (read-high w x l h, mod-eq-of-lt e) (omega arith))
 
 -- at least is not less
 pub le-not-lt : (a b : ℤ) → leZ b a ≡ not (ltZ a b)

@@ -16,10 +16,7 @@ use Rattle.lanes.specs.declared.Sign.the-variants.{Signed}
 use Rattle.lanes.specs.Lane.{readAs}
 use Rattle.lanes.proofs.Signs.{read-low, read-high, read-fits}
 
-half-le : (w : ℕ) → w ≤ 64 → 2 ^ (w - 1) ≤ 2 ^ 63
-half-le w h = pow-mono {i = w - 1} {j = 63} (omega arith)
-
--- a word from 2^63 on, as the code makes it an i64
+-- a word below 2^63, and one from there on, as the code makes it an i64
 pub low-is : (x : ℕ) → x < 2 ^ 63 → toZ w64 x ≡ readAs Signed 64 x
 low-is x l = toZ-pos w64 x l ∙ sym (read-low 64 x l)
 
@@ -31,7 +28,7 @@ high-is x b l =
 module _ (w x : ℕ) (z : 0 < w) (h : w ≤ 64) where
   -- a signed lane is an i64 for every width, and so is what a right shift leaves of it
   pub lane-fits : x < 2 ^ w → SFits w64 (readAs Signed w x)
-  lane-fits b = record { sfits = lt-of-lt-of-le (read-fits w x z b) (half-le w h) }
+  lane-fits b = record { sfits = lt-of-lt-of-le (read-fits w x z b) (pow-mono {i = w - 1} {j = 63} (omega arith)) }
 
   pub lane-is : x < 2 ^ w → toZ w64 (ofZ w64 (readAs Signed w x)) ≡ readAs Signed w x
   lane-is b = toZ-ofZ w64 (readAs Signed w x) (lane-fits b)

@@ -16,7 +16,7 @@ ghost use mathlib.Core.Path.{_≡_};
 ghost use Prim.Native.Nat.{_+_, _-_, _*_, _/_, _%_, _^_, _<_, _≤_};
 ghost use Rattle.lanes.specs.Lane.{laneOf, bitsOf, lanesOf};
 
-// The bits of a lane.
+// How many bits a lane has.
 pub enum Width {
     B8,
     B16,
@@ -30,7 +30,7 @@ pub enum Sign {
     Signed,
 }
 
-// A lane operation. A shift carries its amount.
+// A lane operation, by its instruction's name. A shift carries its amount, and reads n alone.
 pub enum LaneOp {
     Add,
     Sub,
@@ -77,6 +77,7 @@ fn place(op: LaneOp, w: u32, at: u32, out: u64, d: u64, n: u64, m: u64) -> u64
     out + (lane(op, w, cut(w, d >> at), cut(w, n >> at), cut(w, m >> at)) << at)
 }
 
+// A width as a number.
 fn bits(w: Width) -> u32
     ensures { λ r. ⌜ r ≡ bitsOf w ⌝ }
 {
