@@ -1,0 +1,5 @@
+pub mod Numbers
+pub mod Signs
+pub mod Words
+pub mod Lanewise
+pub mod Promises

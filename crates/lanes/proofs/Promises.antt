@@ -1,0 +1,41 @@
+-- The proofs of what specs/Promises.antt states.
+-- Assumes nothing.
+use mathlib.Core.Path.{refl}
+use Prim.Native.Nat.{_/_}
+use native.Mathlib.Nat.{lt-of-lt-of-le, mul-div-le}
+use lib.Pow.{pow-mono}
+use Rattle.lanes.specs.declared.Width.the-variants.{B8, B16, B32, B64}
+use Rattle.lanes.specs.Lane.{readAs, modulo, greater, lesser, onesIf, exact, laneOf, lanewise, bitsOf, lanesOf}
+use Rattle.lanes.specs.Promises.{EachLane, Split, Row, LaneBelow, LanesBelow, ReadBack, Worked}
+use Rattle.lanes.proofs.Signs as signs
+use Rattle.lanes.proofs.Lanewise as laws
+
+pub eachLane : EachLane
+eachLane = laws.each
+
+pub split : Split
+split = laws.split
+
+pub row : Row
+unfolding lanesOf
+row op B8 = split (laneOf op 8) 8 8 8
+row op B16 = split (laneOf op 16) 16 4 4
+row op B32 = split (laneOf op 32) 32 2 2
+row op B64 = split (laneOf op 64) 64 1 1
+
+pub laneBelow : LaneBelow
+unfolding laneOf
+laneBelow op w d n m = signs.modulo-lt w (exact op w d n m)
+
+pub lanesBelow : LanesBelow
+unfolding lanesOf
+lanesBelow size op w d n m =
+    let b = bitsOf w in
+    lt-of-lt-of-le (laws.lanes-lt (laneOf op b) b (laneBelow op b) (size / b) d n m) (pow-mono (mul-div-le size b))
+
+pub readBack : ReadBack
+readBack = signs.again
+
+pub worked : Worked
+unfolding readAs modulo greater lesser onesIf laneOf lanewise lanesOf
+worked = (refl, refl, refl, refl, refl, refl, refl, refl, refl, refl, refl, refl, refl, refl, refl, refl, refl, refl)

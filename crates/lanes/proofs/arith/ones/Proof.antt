@@ -1,0 +1,8 @@
+use native.Mathlib.Omega.{arith}
+use borrow.Author.Needs.{needs}
+use Rattle.lanes.proofs.Numbers.{ones-shr}
+use Rattle.lanes.proofs.arith.ones.Statement.{statement}
+use Rattle.lanes.proofs.arith.ones.Tie as tie
+
+pub ones-spec : {M : Type 1} → statement M
+ones-spec = tie.close (tie.spec (λ c. search needs) (λ c. search needs) (λ c. search needs) (λ c. ones-shr (c .args .w) (omega arith)))

@@ -1,0 +1,25 @@
+use native.Mathlib.Omega.{arith}
+use borrow.Author.Needs.{needs}
+use Rattle.lanes.specs.Lane.{readAs}
+use Rattle.lanes.proofs.Words.{lane-is}
+use Rattle.lanes.proofs.whole.less.Statement.{statement}
+use Rattle.lanes.proofs.whole.less.Tie as tie
+
+pub less-spec : {M : Type 1} → statement M
+unfolding readAs
+less-spec =
+    tie.close
+    (tie.spec
+    (λ c. search needs)
+    (λ c. search needs)
+    (λ c κs. search needs)
+    (λ c κs. search needs)
+    (λ c. rw (c .enum-told .given .1))
+    (λ c. let a = c .before .before .before .before .args in
+    rw (
+      c .before .before .enum-told2 .given .1,
+      c .before .signed .ensures,
+      c .signed2 .ensures,
+      lane-is (a .w) (a .x) (omega arith) (omega arith) (omega arith),
+      lane-is (a .w) (a .y) (omega arith) (omega arith) (omega arith),
+    )))

@@ -1,0 +1,74 @@
+-- What an operation does to one lane of w bits, and to each lane of a number. Lane 0 is the lowest.
+-- From ARM DDI 0406C, A8.8; an operation has its instruction's name, without the v and the type.
+-- Assumes nothing.
+use Prim.Native.Nat.{ℕ, zero, suc, _+_, _-_, _*_, _/_, _%_, _^_}
+use mathlib.Core.Bool.{Bool, not}
+use lib.Dec.{ltb, eqb}
+use lib.Bits.{bitAnd}
+use lib.IntN.{ℤ, pos, negsuc, _+ℤ_, _-ℤ_, _*ℤ_}
+use lib.Signed.{ltZ, leZ, shrZ}
+use Rattle.laws.specs.Choice.{choose}
+use Rattle.lanes.specs.declared.Width.{Width}
+use Rattle.lanes.specs.declared.Width.the-variants.{B8, B16, B32, B64}
+use Rattle.lanes.specs.declared.Sign.{Sign}
+use Rattle.lanes.specs.declared.Sign.the-variants.{Unsigned, Signed}
+use Rattle.lanes.specs.declared.LaneOp.{LaneOp}
+use Rattle.lanes.specs.declared.LaneOp.the-variants.{Add, Sub, Mul, Mla, Mls, Max, Min, Cgt, Cge, Ceq, Tst, Shl, Shr}
+
+-- a lane x of w bits as a whole number: from 0, or in two's complement
+unfoldable pub readAs : Sign → ℕ → ℕ → ℤ
+readAs Unsigned w x = pos x
+readAs Signed w x = choose (ltb x (2 ^ (w - 1))) (pos x) (pos x -ℤ pos (2 ^ w))
+
+-- a whole number modulo 2^w, from 0 to 2^w - 1; negsuc n is -(n + 1)
+unfoldable pub modulo : ℕ → ℤ → ℕ
+modulo w (pos n) = n % 2 ^ w
+modulo w (negsuc n) = 2 ^ w - 1 - n % 2 ^ w
+
+-- the greater and the lesser of two whole numbers
+unfoldable pub greater : ℤ → ℤ → ℤ
+greater a b = choose (ltZ a b) b a
+
+unfoldable pub lesser : ℤ → ℤ → ℤ
+lesser a b = choose (ltZ a b) a b
+
+-- w ones where the test holds, else 0
+unfoldable pub onesIf : Bool → ℕ → ℤ
+onesIf t w = choose t (pos (2 ^ w - 1)) (pos 0)
+
+-- The exact whole number for a lane: d is the old target's lane, n and m are the sources'. A shift reads n alone.
+-- shrZ rounds down, so a right shift by w or more gives 0, or -1 for a negative lane.
+abbrev pub exact : LaneOp → ℕ → ℕ → ℕ → ℕ → ℤ
+exact Add w d n m = pos n +ℤ pos m
+exact Sub w d n m = pos n -ℤ pos m
+exact Mul w d n m = pos n *ℤ pos m
+exact Mla w d n m = pos d +ℤ pos n *ℤ pos m
+exact Mls w d n m = pos d -ℤ pos n *ℤ pos m
+exact (Max s) w d n m = greater (readAs s w n) (readAs s w m)
+exact (Min s) w d n m = lesser (readAs s w n) (readAs s w m)
+exact (Cgt s) w d n m = onesIf (ltZ (readAs s w m) (readAs s w n)) w
+exact (Cge s) w d n m = onesIf (leZ (readAs s w m) (readAs s w n)) w
+exact Ceq w d n m = onesIf (eqb n m) w
+exact Tst w d n m = onesIf (not (eqb (bitAnd n m) 0)) w
+exact (Shl k) w d n m = pos n *ℤ pos (2 ^ k)
+exact (Shr s k) w d n m = shrZ (readAs s w n) (2 ^ k)
+
+-- the lane that is left of it
+unfoldable pub laneOf : LaneOp → ℕ → ℕ → ℕ → ℕ → ℕ
+laneOf op w d n m = modulo w (exact op w d n m)
+
+-- f at each of k lanes of w bits: at lane 0, and above it at the k - 1 lanes that are left
+unfoldable pub lanewise : (ℕ → ℕ → ℕ → ℕ) → ℕ → ℕ → ℕ → ℕ → ℕ → ℕ
+lanewise f w zero d n m = 0
+lanewise f w (suc k) d n m = f (d % 2 ^ w) (n % 2 ^ w) (m % 2 ^ w) + 2 ^ w * lanewise f w k (d / 2 ^ w) (n / 2 ^ w) (m / 2 ^ w)
+
+-- the bits of a lane
+abbrev pub bitsOf : Width → ℕ
+bitsOf B8 = 8
+bitsOf B16 = 16
+bitsOf B32 = 32
+bitsOf B64 = 64
+
+-- an operation at each lane of numbers of `size` bits
+unfoldable pub lanesOf : ℕ → LaneOp → Width → ℕ → ℕ → ℕ → ℕ
+lanesOf size op w d n m = lanewise (laneOf op (bitsOf w)) (bitsOf w) (size / bitsOf w) d n m

@@ -1,0 +1,67 @@
+-- What is promised of lanes beyond the contracts; each is proved under its name in proofs/Promises.antt.
+-- Assumes nothing.
+use mathlib.Core.Path.{_≡_}
+use Prim.Native.Nat.{ℕ, _+_, _*_, _/_, _%_, _^_, _<_}
+use Rattle.lanes.specs.declared.Width.{Width}
+use Rattle.lanes.specs.declared.Width.the-variants.{B16}
+use Rattle.lanes.specs.declared.Sign.{Sign}
+use Rattle.lanes.specs.declared.Sign.the-variants.{Unsigned, Signed}
+use Rattle.lanes.specs.declared.LaneOp.{LaneOp}
+use Rattle.lanes.specs.declared.LaneOp.the-variants.{Add, Sub, Mul, Mla, Mls, Max, Min, Cgt, Cge, Ceq, Tst, Shl, Shr}
+use Rattle.lanes.specs.Lane.{readAs, modulo, laneOf, lanewise, lanesOf}
+
+-- lane i of x, where lanes have w bits
+abbrev pub laneAt : ℕ → ℕ → ℕ → ℕ
+laneAt w i x = x / 2 ^ (w * i) % 2 ^ w
+
+-- lane i of the result is f of lane i of each operand, for every width
+abbrev pub EachLane : Type 0
+EachLane =
+    (f : ℕ → ℕ → ℕ → ℕ) (w : ℕ) → ((d n m : ℕ) → f d n m < 2 ^ w)
+    → (k i d n m : ℕ) → i < k → laneAt w i (lanewise f w k d n m) ≡ f (laneAt w i d) (laneAt w i n) (laneAt w i m)
+
+-- j lanes a, c, e below k lanes b, d, g: lane-wise on the joined numbers is lane-wise on their parts, for every width
+abbrev pub Split : Type 0
+Split =
+    (f : ℕ → ℕ → ℕ → ℕ) (w j k a b c d e g : ℕ) → a < 2 ^ (w * j) → c < 2 ^ (w * j) → e < 2 ^ (w * j)
+    → lanewise f w (j + k) (a + 2 ^ (w * j) * b) (c + 2 ^ (w * j) * d) (e + 2 ^ (w * j) * g)
+    ≡ lanewise f w j a c e + 2 ^ (w * j) * lanewise f w k b d g
+
+-- its case for a row of 128 bits, which is two halves of 64
+abbrev pub Row : Type 0
+Row =
+    (op : LaneOp) (w : Width) (a b c d e g : ℕ) → a < 2 ^ 64 → c < 2 ^ 64 → e < 2 ^ 64
+    → lanesOf 128 op w (a + 2 ^ 64 * b) (c + 2 ^ 64 * d) (e + 2 ^ 64 * g) ≡ lanesOf 64 op w a c e + 2 ^ 64 * lanesOf 64 op w b d g
+
+-- a lane stays below 2^w, and a number of `size` bits below 2^size
+abbrev pub LaneBelow : Type 0
+LaneBelow = (op : LaneOp) (w d n m : ℕ) → laneOf op w d n m < 2 ^ w
+
+abbrev pub LanesBelow : Type 0
+LanesBelow = (size : ℕ) (op : LaneOp) (w : Width) (d n m : ℕ) → lanesOf size op w d n m < 2 ^ size
+
+-- a lane that is read by sign and taken modulo 2^w is the lane
+abbrev pub ReadBack : Type 0
+ReadBack = (s : Sign) (w x : ℕ) → x < 2 ^ w → modulo w (readAs s w x) ≡ x
+
+-- worked lanes, the ends of the ranges among them
+abbrev pub Worked : Type 0
+Worked =
+    (laneOf Add 8 0 200 100 ≡ 44)
+    × (laneOf Sub 8 0 1 2 ≡ 255)
+    × (laneOf Mul 16 0 300 300 ≡ 24464)
+    × (laneOf Mla 8 250 2 5 ≡ 4)
+    × (laneOf Mls 8 1 2 5 ≡ 247)
+    × (laneOf (Max Unsigned) 8 0 255 1 ≡ 255)
+    × (laneOf (Max Signed) 8 0 255 1 ≡ 1)
+    × (laneOf (Min Signed) 8 0 128 127 ≡ 128)
+    × (laneOf (Cgt Unsigned) 8 0 1 255 ≡ 0)
+    × (laneOf (Cgt Signed) 8 0 1 255 ≡ 255)
+    × (laneOf (Cge Signed) 8 0 128 128 ≡ 255)
+    × (laneOf Ceq 32 0 7 7 ≡ 0xffff_ffff)
+    × (laneOf Tst 8 0 6 9 ≡ 0)
+    × (laneOf (Shl 7) 8 0 3 0 ≡ 128)
+    × (laneOf (Shr Unsigned 8) 8 0 255 0 ≡ 0)
+    × (laneOf (Shr Signed 8) 8 0 128 0 ≡ 255)
+    × (laneOf (Shr Signed 1) 8 0 129 0 ≡ 192)
+    × (lanesOf 64 Add B16 0 0xffff_8000_0001_1234 0x0001_8000_0001_0001 ≡ 0x0000_0000_0002_1235)

@@ -1,0 +1,104 @@
+// Lane arithmetic on 64-bit words: one operation at every lane of 8, 16, 32 or 64 bits.
+mod arith;
+mod whole;
+
+use arith::cut;
+use arith::difference;
+use arith::left;
+use arith::ones_if;
+use arith::product;
+use arith::sum;
+use whole::greatest;
+use whole::least;
+use whole::less;
+use whole::right;
+ghost use mathlib.Core.Path.{_≡_};
+ghost use Prim.Native.Nat.{_+_, _-_, _*_, _/_, _%_, _^_, _<_, _≤_};
+ghost use Rattle.lanes.specs.Lane.{laneOf, bitsOf, lanesOf};
+
+// How many bits a lane has.
+pub enum Width {
+    B8,
+    B16,
+    B32,
+    B64,
+}
+
+// How a lane is read: as a number from 0, or in two's complement.
+pub enum Sign {
+    Unsigned,
+    Signed,
+}
+
+// A lane operation, by its instruction's name. A shift carries its amount, and reads n alone.
+pub enum LaneOp {
+    Add,
+    Sub,
+    Mul,
+    Mla,
+    Mls,
+    Max(Sign),
+    Min(Sign),
+    Cgt(Sign),
+    Cge(Sign),
+    Ceq,
+    Tst,
+    Shl(u32),
+    Shr(Sign, u32),
+}
+
+// One operation on one lane of w bits: d of the old target, n and m of the sources.
+fn lane(op: LaneOp, w: u32, d: u64, n: u64, m: u64) -> u64
+    requires { ⌜ ((0 < w) × (w ≤ 64)) × ((n < 2 ^ w) × (m < 2 ^ w)) ⌝ }
+    ensures { λ r. ⌜ r ≡ laneOf op w d n m ⌝ }
+{
+    match op {
+        LaneOp::Add => sum(w, n, m),
+        LaneOp::Sub => difference(w, n, m),
+        LaneOp::Mul => cut(w, product(n, m)),
+        LaneOp::Mla => sum(w, d, product(n, m)),
+        LaneOp::Mls => difference(w, d, product(n, m)),
+        LaneOp::Max(s) => greatest(s, w, n, m),
+        LaneOp::Min(s) => least(s, w, n, m),
+        LaneOp::Cgt(s) => ones_if(w, less(s, w, m, n)),
+        LaneOp::Cge(s) => ones_if(w, !less(s, w, n, m)),
+        LaneOp::Ceq => ones_if(w, n == m),
+        LaneOp::Tst => ones_if(w, n & m != 0),
+        LaneOp::Shl(k) => left(w, n, k),
+        LaneOp::Shr(s, k) => right(s, w, n, k),
+    }
+}
+
+// `out` with the lane that starts at bit `at` put there.
+fn place(op: LaneOp, w: u32, at: u32, out: u64, d: u64, n: u64, m: u64) -> u64
+    requires { ⌜ ((0 < w) × (at + w ≤ 64)) × (out + 2 ^ (at + w) ≤ 2 ^ 64) ⌝ }
+    ensures { λ r. ⌜ r ≡ out + 2 ^ at * laneOf op w (d / 2 ^ at % 2 ^ w) (n / 2 ^ at % 2 ^ w) (m / 2 ^ at % 2 ^ w) ⌝ }
+{
+    out + (lane(op, w, cut(w, d >> at), cut(w, n >> at), cut(w, m >> at)) << at)
+}
+
+// A width as a number.
+fn bits(w: Width) -> u32
+    ensures { λ r. ⌜ r ≡ bitsOf w ⌝ }
+{
+    match w {
+        Width::B8 => 8,
+        Width::B16 => 16,
+        Width::B32 => 32,
+        Width::B64 => 64,
+    }
+}
+
+// The operation at each lane of a word, from the highest down: d the old target, n and m the sources.
+pub fn lanes(op: LaneOp, w: Width, d: u64, n: u64, m: u64) -> u64
+    ensures { λ r. ⌜ r ≡ lanesOf 64 op w d n m ⌝ }
+{
+    let b = bits(w);
+    let mut i = 64 / b;
+    let mut out: u64 = 0;
+    while 0 < i {
+        i -= 1;
+        out = place(op, b, b * i, out, d, n, m);
+    }
+    out
+}
