@@ -1,4 +1,5 @@
 pub mod Codes
+pub mod Known
 pub mod Promises
 pub mod Spellings
 pub mod Widths

@@ -2,8 +2,9 @@
 -- Assumes nothing.
 use mathlib.Core.Path.{_≡_, refl, sym, ap, _∙_}
 use mathlib.Core.List.{List, [], map}
-use Prim.Native.Nat.{ℕ, _<_, _≤_}
+use Prim.Native.Nat.{ℕ, _+_, _*_, _/_, _%_, _<_, _≤_}
 use Prim.Native.String.{String}
+use lib.Arith.{digits-div, digits-mod}
 use lib.ListN.{length, getD, List·getD-eq-default}
 use Rattle.laws.proofs.Range.{values, agree}
 use Rattle.tables.specs.Cells.{cellAt}
@@ -44,3 +45,7 @@ blank-number = refl
 pub past : (table : List (List String)) (r c : ℕ) → length table ≤ r → blank ≡ numberOf (cellAt table r c)
 past table r c h =
     sym (ap (λ (l : List String). numberOf (getD l c "")) (List·getD-eq-default table [] {n = r} h) ∙ blank-number)
+
+-- a cell by its row and column in one number
+pub flat-cell : (table : List (List String)) (w r c : ℕ) → c < w → cellAt table ((r * w + c) / w) ((r * w + c) % w) ≡ cellAt table r c
+flat-cell table w r c h = rw (digits-div r h, digits-mod r h)

@@ -1,0 +1,87 @@
+// Three registers of different lengths.
+ghost use mathlib.Core.Path.{_≡_};
+ghost use Rattle.tables.specs.Names.{nameOf};
+ghost use Rattle.decode.specs.Answers.{readingAnswer};
+ghost use Rattle.decode.specs.Diff.{shaped, diffOf, diffReading};
+use crate::Reading;
+use crate::operands;
+use fields::dnum;
+use fields::vec;
+use insn::Mark;
+use insn::Refusal;
+use tables::DiffShape;
+
+// The record of a mnemonic in a row of that shape.
+fn with_shape(
+    shape: DiffShape,
+    mnemonic: u16,
+    mark: Mark,
+    d: u8,
+    n: u8,
+    m: u8,
+    address: u32,
+) -> Reading
+    ensures { λ r. ⌜ readingAnswer r ≡ shaped shape mnemonic mark d n m address ⌝ }
+{
+    match shape {
+        DiffShape::Long => operands::three_operands(
+            mnemonic,
+            mark,
+            address,
+            vec(true, d),
+            vec(false, n),
+            vec(false, m),
+        ),
+        DiffShape::Wide => operands::three_operands(
+            mnemonic,
+            mark,
+            address,
+            vec(true, d),
+            vec(true, n),
+            vec(false, m),
+        ),
+        DiffShape::Narrow => operands::three_operands(
+            mnemonic,
+            mark,
+            address,
+            vec(false, d),
+            vec(true, n),
+            vec(true, m),
+        ),
+    }
+}
+
+// The reading of a mnemonic: d, n and m are the numbers of its registers.
+fn with_registers(
+    mnemonic: u16,
+    shape: DiffShape,
+    mark: Mark,
+    d: u8,
+    n: u8,
+    m: u8,
+    address: u32,
+) -> Reading
+    ensures { λ r. ⌜ readingAnswer r ≡ diffOf (nameOf mnemonic) shape mark d n m address ⌝ }
+{
+    if 346 <= mnemonic {
+        return Reading::Refused(Refusal::BlankCell);
+    }
+    with_shape(shape, mnemonic, mark, d, n, m, address)
+}
+
+// Reads a pair of the family three-different.
+pub fn decode_diff(hw1: u16, hw2: u16, address: u32) -> Reading
+    ensures { λ r. ⌜ readingAnswer r ≡ diffReading hw1 hw2 address ⌝ }
+{
+    let row = (hw1 / 4096 % 2 * 16 + hw2 / 256 % 16) as u8;
+    let size = (hw1 / 16 % 4) as u8;
+    with_registers(
+        tables::diff::cell(row * 4 + size),
+        tables::diff::shape(row),
+        tables::diff::mark(row),
+        dnum(hw1 / 64 % 2, hw2 / 4096 % 16),
+        dnum(hw2 / 128 % 2, hw1 % 16),
+        dnum(hw2 / 32 % 2, hw2 % 16),
+        address,
+    )
+}

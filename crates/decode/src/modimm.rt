@@ -1,0 +1,56 @@
+// One register and a modified immediate.
+ghost use mathlib.Core.Path.{_≡_};
+ghost use Prim.Native.Nat.{_<_};
+ghost use lib.Dec.{eqb};
+ghost use Rattle.immediates.specs.Modified.{needsNonzero};
+ghost use Rattle.decode.specs.Answers.{readingAnswer};
+ghost use Rattle.decode.specs.Operands.{both};
+ghost use Rattle.decode.specs.Modimm.{modimmOf, modimmReading};
+use crate::Reading;
+use crate::operands;
+use fields::Vector;
+use fields::dnum;
+use fields::vec;
+use insn::Mark;
+use insn::Refusal;
+
+// A zero immediate in a row that needs another.
+fn is_zero_refused(cmode: u8, imm8: u8) -> bool
+    ensures { λ r. ⌜ r ≡ both (eqb imm8 0) (needsNonzero cmode) ⌝ }
+{
+    if imm8 == 0 {
+        immediates::modified::modimm_needs_nonzero(cmode)
+    } else {
+        false
+    }
+}
+
+// The reading of the cell op:cmode with an immediate: d is the number of the register.
+fn with_register(op: u8, cmode: u8, imm8: u8, quad: bool, d: u8, address: u32) -> Reading
+    requires { ⌜ (op < 2) × (cmode < 16) ⌝ }
+    ensures { λ r. ⌜ readingAnswer r ≡ modimmOf op cmode imm8 quad d address ⌝ }
+{
+    let mnemonic = tables::modimm::cell(op * 16 + cmode);
+    if 346 <= mnemonic {
+        return Reading::Refused(Refusal::BlankCell);
+    }
+    if is_zero_refused(cmode, imm8) {
+        return Reading::Refused(Refusal::ZeroImmediate);
+    }
+    let value = Vector::Is(immediates::modified::modimm_operand(op, cmode, imm8));
+    operands::two_operands(mnemonic, Mark::T1, address, vec(quad, d), value)
+}
+
+// Reads a pair of the family modified-immediate.
+pub fn decode_modimm(hw1: u16, hw2: u16, address: u32) -> Reading
+    ensures { λ r. ⌜ readingAnswer r ≡ modimmReading hw1 hw2 address ⌝ }
+{
+    with_register(
+        (hw2 / 32 % 2) as u8,
+        (hw2 / 256 % 16) as u8,
+        (hw1 / 4096 % 2 * 128 + hw1 % 8 * 16 + hw2 % 16) as u8,
+        hw2 / 64 % 2 == 1,
+        dnum(hw1 / 64 % 2, hw2 / 4096 % 16),
+        address,
+    )
+}
