@@ -6,3 +6,4 @@ pub mod Modimm
 pub mod Reading
 pub mod Answers
 pub mod Promises
+pub mod Starred

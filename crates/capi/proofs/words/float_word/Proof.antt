@@ -1,0 +1,17 @@
+-- `capi::words::float_word` meets its contract.
+-- Assumes nothing.
+use borrow.Author.Needs.{needs}
+use lib.Ieee.{toBits}
+use Rattle.capi.proofs.Floats.{is-number, not-a-number}
+use Rattle.capi.proofs.words.float_word.Statement.{statement}
+use Rattle.capi.proofs.words.float_word.Tie as tie
+
+float-to-bits-result : tie.Need-float-to-bits-result
+float-to-bits-result c = is-number _ (c .if1 .taken)
+
+returns-2 : tie.Need-returns-2
+unfolding toBits
+returns-2 c = rw (not-a-number _ (c .if1 .left))
+
+pub float-word-spec : {M : Type 1} → statement M
+float-word-spec = tie.close (tie.spec float-to-bits-result (λ c. search needs) returns-2)

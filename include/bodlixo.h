@@ -1,0 +1,16 @@
+/* Bodlixo: ARM vector (NEON) instruction pairs. Link with the archive that `rt staticlib capi` writes. */
+#ifndef BODLIXO_H
+#define BODLIXO_H
+
+#include <stdint.h>
+
+/* Every function answers 0, or the number of the refusal.
+
+   A record is ten words: mnemonic, mark (1 or 2), address, count, then kind and value of each of three places.
+   Kind: 0 absent, 1 D, 2 Q, 3 S, 4 whole number, 5 float, 6 another kind.
+   Value: the register's number, the whole number's 64 bits in two's complement, the float's IEEE 754 bits, else 0. */
+
+/* Reads a pair at an address. On a refusal the record is untouched. */
+uint32_t bodlixo_read(uint16_t hw1, uint16_t hw2, uint32_t address, uint64_t record[10]);
+
+#endif
