@@ -65,8 +65,8 @@ fn main() -> ExitCode {
         if let Some(count) = counts[row].get_mut(number(&got) as usize) {
             *count += 1;
         }
-        let want = theirs(hw1, hw2, address, &names);
-        report.expect(got, want, || format!("pair {hw1:04x} {hw2:04x}"));
+        let due = theirs(hw1, hw2, address, &names);
+        report.expect(got, due, || format!("pair {hw1:04x} {hw2:04x}"));
         compared += 1;
     }
     for ((name, _, known), counted) in KNOWN.iter().zip(&counts) {

@@ -52,8 +52,8 @@ fn written_line(record: &Record, names: &Names, forms: &Forms) -> String {
     line(pair.unwrap_or((0, 0)), forms.refusal(record), record)
 }
 
-/// The records of the pairs that are read, amounts at both ends and one past them, pairwise names
-/// with Q registers, and some of each sort of damage.
+/// The records of the pairs that are read, vorr with equal sources, amounts at both ends and one
+/// past them, pairwise names with Q registers, and some of each sort of damage.
 fn chosen_records(names: &Names, forms: &Forms) -> BTreeSet<Record> {
     let mut records = BTreeSet::new();
     for (hw1, hw2) in chosen::pairs() {
@@ -66,6 +66,9 @@ fn chosen_records(names: &Names, forms: &Forms) -> BTreeSet<Record> {
         let amounts = [low - 1, low, high, high + 1];
         records.extend(amounts.map(|n| with_place(record, 2, (WHOLE, n as u64))));
     }
+    let copies = records.iter().filter(|record| record[0] == names.number("vmov"));
+    let spelled: Vec<_> = copies.map(|record| as_vorr(record, names)).collect();
+    records.extend(spelled);
     let quads = good.one_each().map(|record| with_exchanged(record, 7));
     records.extend(quads.filter(|record| forms.refusal(record) == 5));
     for (_, damaged) in SORTS {
@@ -80,6 +83,14 @@ fn chosen_records(names: &Names, forms: &Forms) -> BTreeSet<Record> {
         });
     }
     records
+}
+
+/// A vmov spelled as vorr with equal sources.
+fn as_vorr(record: &Record, names: &Names) -> Record {
+    let mut spelled = with_place(record, 2, (record[place(1)], record[place(1) + 1]));
+    spelled[0] = names.number("vorr");
+    spelled[3] = 3;
+    spelled
 }
 
 /// Whether every word that writing looks at has room in a line and in a record of the port.

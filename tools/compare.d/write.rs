@@ -36,70 +36,85 @@ fn number(writing: Writing) -> u32 {
     }
 }
 
-/// Records tried, by our answer: those compared with the original, and those of which it has no
-/// form, so that our answer is only held to document 01.
+/// Records tried, by our answer: those compared with the original, and those that it can't hold,
+/// so that our answer is only held to document 01.
 #[derive(Default)]
 struct Counts {
     compared: [u64; 10],
-    left_out: [u64; 10],
+    beyond: [u64; 10],
 }
 
-struct Check {
-    names: Names,
+impl Counts {
+    fn tell(&self, what: &str) {
+        let by_number = |counts: &[u64; 10]| [7, 8, 5, 9].map(|number: usize| counts[number]);
+        println!(
+            "  {what}: compared {}, written {}, refused 7 8 5 9: {:?}; beyond the original {:?}",
+            self.compared.iter().sum::<u64>(),
+            self.compared[0],
+            by_number(&self.compared),
+            by_number(&self.beyond),
+        );
+    }
+
+    fn add(&mut self, more: &Counts) {
+        (0..10).for_each(|i| self.compared[i] += more.compared[i]);
+        (0..10).for_each(|i| self.beyond[i] += more.beyond[i]);
+    }
+}
+
+struct Check<'a> {
+    names: &'a Names,
     forms: Forms,
     report: Report,
     counts: Counts,
 }
 
-impl Check {
+impl Check<'_> {
     /// One record. Acceptance and the pair are the original's; the number is the one worked out
-    /// from document 01, which has to refuse just what the original refuses.
+    /// from document 01, which has to refuse just what the original refuses. What is due.
     fn record(&mut self, record: &Record) -> Writing {
         let got = ours(record);
         let refusal = self.forms.refusal(record);
-        let insn = record::to_insn(record, &self.names);
+        let insn = record::to_insn(record, self.names);
         let written = insn.and_then(|insn| encode(&insn));
         assert_eq!(written.is_none(), refusal != 0, "document 01 and the original on {record:x?}");
-        let want =
+        let due =
             written.map_or(Writing::Refused(refusal), |(hw1, hw2)| Writing::Written(hw1, hw2));
-        self.report.expect(got, want, || format!("record {record:x?}"));
+        self.report.expect(got, due, || format!("record {record:x?}"));
         let counts = match insn {
             Some(_) => &mut self.counts.compared,
-            None => &mut self.counts.left_out,
+            None => &mut self.counts.beyond,
         };
         if let Some(count) = counts.get_mut(number(got) as usize) {
             *count += 1;
         }
-        got
-    }
-
-    /// A line about the records since the last one. How many of them were compared.
-    fn tell(&mut self, what: &str) -> u64 {
-        let Counts { compared, left_out } = std::mem::take(&mut self.counts);
-        let all = compared.iter().sum();
-        println!(
-            "  {what}: {all} compared, {} written, refused 7: {}, 8: {}, 5: {}, 9: {}; not the original's {}, refused 7: {}, 8: {}",
-            compared[0], compared[7], compared[8], compared[5], compared[9],
-            left_out.iter().sum::<u64>(), left_out[7], left_out[8],
-        );
-        all
+        due
     }
 }
 
 fn main() -> ExitCode {
     let names = Names::of_original();
     let forms = Forms::new(&names);
-    let mut check = Check { names, forms, report: Report::default(), counts: Counts::default() };
+    let counts = Counts::default();
+    let mut check = Check { names: &names, forms, report: Report::default(), counts };
+    let mut total = Counts::default();
     let good = written_back(&mut check);
-    let mut total = check.tell("what reading gives");
-    let names = Names::of_original();
+    check.counts.tell("what reading gives");
+    total.add(&std::mem::take(&mut check.counts));
     for (what, damaged) in SORTS {
         damaged(&good, &names, &mut |record| {
             check.record(record);
         });
-        total += check.tell(what);
+        check.counts.tell(what);
+        total.add(&std::mem::take(&mut check.counts));
     }
-    println!("write: {total} records compared, {} disagreements", check.report.disagreements);
+    println!(
+        "write: {} records compared, {} written; {} more beyond the original; {} disagreements",
+        total.compared.iter().sum::<u64>(),
+        total.compared[0],
+        total.beyond.iter().sum::<u64>(),
+        check.report.disagreements
+    );
     check.report.status()
 }
 
@@ -109,11 +124,11 @@ fn written_back(check: &mut Check) -> Good {
     let mut good = Good::default();
     for (seed, (hw1, hw2)) in pairs().enumerate() {
         let Some(insn) = decode(hw1, hw2, address(hw1, hw2)) else { continue };
-        let record = record::of_insn(&insn, &check.names);
+        let record = record::of_insn(&insn, check.names);
         good.keep(&record);
         let given = if seed % 2 == 0 { record } else { with_junk(&record, seed as u64) };
-        let got = check.record(&given);
-        check.report.expect(got, Writing::Written(hw1, hw2), || format!("back, {given:x?}"));
+        let due = check.record(&given);
+        assert_eq!(due, Writing::Written(hw1, hw2), "the original writes back what it read");
     }
     good
 }

@@ -1,5 +1,6 @@
 //! Disagreements: counted, and the first ten told.
 
+use std::fmt::Debug;
 use std::process::ExitCode;
 
 #[derive(Default)]
@@ -9,16 +10,11 @@ pub struct Report {
 
 impl Report {
     /// Counts a disagreement where the two are not equal.
-    pub fn expect<T: PartialEq + std::fmt::Debug>(
-        &mut self,
-        ours: T,
-        theirs: T,
-        what: impl FnOnce() -> String,
-    ) {
-        if ours != theirs {
+    pub fn expect<T: PartialEq + Debug>(&mut self, ours: T, due: T, what: impl FnOnce() -> String) {
+        if ours != due {
             self.disagreements += 1;
             if self.disagreements <= 10 {
-                println!("  {}: ours {ours:x?}, the original {theirs:x?}", what());
+                println!("  {}: ours {ours:x?}, due {due:x?}", what());
             }
         }
     }
