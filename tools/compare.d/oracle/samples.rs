@@ -23,7 +23,17 @@ pub fn mixed(n: u64) -> u64 {
     n ^ n >> 31
 }
 
-/// An address for a pair.
+/// Addresses at the bounds of 32, 31 and 16 bits.
+const BOUNDS: [u32; 8] =
+    [0, 1, 0xffff, 0x1_0000, 0x7fff_ffff, 0x8000_0000, 0xffff_fffe, 0xffff_ffff];
+
+/// An address for a pair: one of the bounds for an eighth of the pairs, else any.
 pub fn address(hw1: u16, hw2: u16) -> u32 {
-    (shuffled(&(hw1, hw2)) >> 16) as u32
+    let chance = shuffled(&(hw1, hw2));
+    let bound = BOUNDS[chance as usize % 8];
+    if chance >> 8 & 7 == 0 {
+        bound
+    } else {
+        (chance >> 16) as u32
+    }
 }
