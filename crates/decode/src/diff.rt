@@ -6,12 +6,11 @@ ghost use Rattle.decode.specs.Diff.{shaped, diffOf, diffReading};
 use crate::Reading;
 use crate::operands;
 use fields::dnum;
-use fields::vec;
 use insn::Mark;
 use insn::Refusal;
 use tables::DiffShape;
 
-// The record of a mnemonic in a row of that shape.
+// The record of a mnemonic in a row of that shape: long Q D D, wide Q Q D, narrow D Q Q.
 fn with_shape(
     shape: DiffShape,
     mnemonic: u16,
@@ -24,29 +23,38 @@ fn with_shape(
     ensures { λ r. ⌜ readingAnswer r ≡ shaped shape mnemonic mark d n m address ⌝ }
 {
     match shape {
-        DiffShape::Long => operands::three_operands(
+        DiffShape::Long => operands::three_registers(
             mnemonic,
             mark,
             address,
-            vec(true, d),
-            vec(false, n),
-            vec(false, m),
+            true,
+            d,
+            false,
+            n,
+            false,
+            m,
         ),
-        DiffShape::Wide => operands::three_operands(
+        DiffShape::Wide => operands::three_registers(
             mnemonic,
             mark,
             address,
-            vec(true, d),
-            vec(true, n),
-            vec(false, m),
+            true,
+            d,
+            true,
+            n,
+            false,
+            m,
         ),
-        DiffShape::Narrow => operands::three_operands(
+        DiffShape::Narrow => operands::three_registers(
             mnemonic,
             mark,
             address,
-            vec(false, d),
-            vec(true, n),
-            vec(true, m),
+            false,
+            d,
+            true,
+            n,
+            true,
+            m,
         ),
     }
 }

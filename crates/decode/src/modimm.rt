@@ -8,10 +8,7 @@ ghost use Rattle.decode.specs.Operands.{both};
 ghost use Rattle.decode.specs.Modimm.{modimmOf, modimmReading};
 use crate::Reading;
 use crate::operands;
-use fields::Vector;
 use fields::dnum;
-use fields::vec;
-use insn::Mark;
 use insn::Refusal;
 
 // A zero immediate in a row that needs another.
@@ -37,8 +34,8 @@ fn with_register(op: u8, cmode: u8, imm8: u8, quad: bool, d: u8, address: u32) -
     if is_zero_refused(cmode, imm8) {
         return Reading::Refused(Refusal::ZeroImmediate);
     }
-    let value = Vector::Is(immediates::modified::modimm_operand(op, cmode, imm8));
-    operands::two_operands(mnemonic, Mark::T1, address, vec(quad, d), value)
+    let value = immediates::modified::modimm_operand(op, cmode, imm8);
+    operands::register_and_value(mnemonic, address, quad, d, value)
 }
 
 // Reads a pair of the family modified-immediate.

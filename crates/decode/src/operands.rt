@@ -1,55 +1,128 @@
-// Records put together from operands, of which a refused one refuses the record.
+// Records put together from register numbers, which an odd quad register refuses.
 ghost use mathlib.Core.Path.{_≡_};
-ghost use Rattle.fields.specs.Answers.{vectorAnswer};
+ghost use Prim.Native.Nat.{_/_, _%_, _<_};
+ghost use Rattle.laws.specs.Answer.{accepted};
+ghost use Rattle.laws.specs.Choice.{choose};
+ghost use Rattle.fields.specs.Registers.{vecOf};
 ghost use Rattle.decode.specs.Answers.{readingAnswer};
 ghost use Rattle.decode.specs.Operands.{two, three};
 use crate::Reading;
-use fields::Vector;
 use insn::Insn;
 use insn::Mark;
 use insn::Operand;
+use insn::Refusal;
 
-// The record of a mnemonic with two operands.
-pub fn two_operands(m: u16, mark: Mark, address: u32, x: Vector, y: Vector) -> Reading
-    ensures { λ r. ⌜ readingAnswer r ≡ two m mark address (vectorAnswer x) (vectorAnswer y) ⌝ }
+// 1 for an odd number in quad form, else 0.
+fn odd_quad(quad: bool, d: u8) -> u8
+    ensures { λ r. ⌜ (r ≡ choose quad (d % 2) 0) × (r < 2) ⌝ }
 {
-    match x {
-        Vector::Refused(f) => Reading::Refused(f),
-        Vector::Is(a) => match y {
-            Vector::Refused(g) => Reading::Refused(g),
-            Vector::Is(b) => Reading::Read(Insn {
-                mnemonic: m,
-                mark: mark,
-                address: address,
-                count: 2,
-                first: a,
-                second: b,
-                third: Operand::Absent,
-            }),
-        },
+    if quad { d % 2 } else { 0 }
+}
+
+// The register of a number that is even in quad form.
+fn register(quad: bool, d: u8) -> Operand
+    ensures { λ r. ⌜ r ≡ choose quad (Operand.Q (d / 2)) (Operand.D d) ⌝ }
+{
+    if quad {
+        Operand::Q(d / 2)
+    } else {
+        Operand::D(d)
     }
 }
 
-// The record of a mnemonic with three operands.
-pub fn three_operands(m: u16, mark: Mark, address: u32, x: Vector, y: Vector, z: Vector) -> Reading
-    ensures { λ r. ⌜ readingAnswer r ≡ three m mark address (vectorAnswer x) (vectorAnswer y) (vectorAnswer z) ⌝ }
+// The record of a mnemonic with one register and a value.
+pub fn register_and_value(mnemonic: u16, address: u32, quad: bool, d: u8, value: Operand) -> Reading
+    ensures { λ r. ⌜ readingAnswer r ≡ two mnemonic Mark.T1 address (vecOf quad d) (accepted value) ⌝ }
 {
-    match x {
-        Vector::Refused(f) => Reading::Refused(f),
-        Vector::Is(a) => match y {
-            Vector::Refused(g) => Reading::Refused(g),
-            Vector::Is(b) => match z {
-                Vector::Refused(h) => Reading::Refused(h),
-                Vector::Is(c) => Reading::Read(Insn {
-                    mnemonic: m,
-                    mark: mark,
-                    address: address,
-                    count: 3,
-                    first: a,
-                    second: b,
-                    third: c,
-                }),
-            },
-        },
+    if odd_quad(quad, d) != 0 {
+        return Reading::Refused(Refusal::OddQuad);
     }
+    Reading::Read(Insn {
+        mnemonic: mnemonic,
+        mark: Mark::T1,
+        address: address,
+        count: 2,
+        first: register(quad, d),
+        second: value,
+        third: Operand::Absent,
+    })
+}
+
+// The record of a mnemonic with two registers.
+pub fn two_registers(
+    mnemonic: u16,
+    address: u32,
+    quad_d: bool,
+    d: u8,
+    quad_m: bool,
+    m: u8,
+) -> Reading
+    ensures { λ r. ⌜ readingAnswer r ≡ two mnemonic Mark.T1 address (vecOf «quad_d» d) (vecOf «quad_m» m) ⌝ }
+{
+    if odd_quad(quad_d, d) + odd_quad(quad_m, m) != 0 {
+        return Reading::Refused(Refusal::OddQuad);
+    }
+    Reading::Read(Insn {
+        mnemonic: mnemonic,
+        mark: Mark::T1,
+        address: address,
+        count: 2,
+        first: register(quad_d, d),
+        second: register(quad_m, m),
+        third: Operand::Absent,
+    })
+}
+
+// The record of a mnemonic with two registers and a value.
+pub fn two_registers_and_value(
+    mnemonic: u16,
+    address: u32,
+    quad_d: bool,
+    d: u8,
+    quad_m: bool,
+    m: u8,
+    value: Operand,
+) -> Reading
+    ensures { λ r. ⌜ readingAnswer r ≡ three mnemonic Mark.T1 address (vecOf «quad_d» d) (vecOf «quad_m» m) (accepted value) ⌝ }
+{
+    if odd_quad(quad_d, d) + odd_quad(quad_m, m) != 0 {
+        return Reading::Refused(Refusal::OddQuad);
+    }
+    Reading::Read(Insn {
+        mnemonic: mnemonic,
+        mark: Mark::T1,
+        address: address,
+        count: 3,
+        first: register(quad_d, d),
+        second: register(quad_m, m),
+        third: value,
+    })
+}
+
+// The record of a mnemonic with three registers.
+pub fn three_registers(
+    mnemonic: u16,
+    mark: Mark,
+    address: u32,
+    quad_d: bool,
+    d: u8,
+    quad_n: bool,
+    n: u8,
+    quad_m: bool,
+    m: u8,
+) -> Reading
+    ensures { λ r. ⌜ readingAnswer r ≡ three mnemonic mark address (vecOf «quad_d» d) (vecOf «quad_n» n) (vecOf «quad_m» m) ⌝ }
+{
+    if odd_quad(quad_d, d) + odd_quad(quad_n, n) + odd_quad(quad_m, m) != 0 {
+        return Reading::Refused(Refusal::OddQuad);
+    }
+    Reading::Read(Insn {
+        mnemonic: mnemonic,
+        mark: mark,
+        address: address,
+        count: 3,
+        first: register(quad_d, d),
+        second: register(quad_n, n),
+        third: register(quad_m, m),
+    })
 }

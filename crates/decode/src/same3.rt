@@ -9,7 +9,6 @@ ghost use Rattle.decode.specs.Same3.{same3Of, same3Reading};
 use crate::Reading;
 use crate::operands;
 use fields::dnum;
-use fields::vec;
 use insn::Mark;
 use insn::Refusal;
 
@@ -47,26 +46,12 @@ fn with_registers(mnemonic: u16, quad: bool, opc: u16, d: u8, n: u8, m: u8, addr
         return Reading::Refused(Refusal::PairwiseQuad);
     }
     if is_move(mnemonic, n, m) {
-        return operands::two_operands(VMOV, Mark::T1, address, vec(quad, d), vec(quad, m));
+        return operands::two_registers(VMOV, address, quad, d, quad, m);
     }
     if opc / 2 % 8 == 2 {
-        return operands::three_operands(
-            mnemonic,
-            Mark::T1,
-            address,
-            vec(quad, d),
-            vec(quad, m),
-            vec(quad, n),
-        );
+        return operands::three_registers(mnemonic, Mark::T1, address, quad, d, quad, m, quad, n);
     }
-    operands::three_operands(
-        mnemonic,
-        Mark::T1,
-        address,
-        vec(quad, d),
-        vec(quad, n),
-        vec(quad, m),
-    )
+    operands::three_registers(mnemonic, Mark::T1, address, quad, d, quad, n, quad, m)
 }
 
 // Reads a pair of the family three-same.

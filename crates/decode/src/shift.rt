@@ -1,17 +1,14 @@
 // Two registers and a shift amount.
 ghost use mathlib.Core.Path.{_≡_};
 ghost use Prim.Native.Nat.{_<_};
-ghost use Rattle.fields.specs.Answers.{vectorAnswer};
+ghost use Rattle.laws.specs.Answer.{accepted};
 ghost use Rattle.decode.specs.Answers.{readingAnswer};
 ghost use Rattle.decode.specs.Shift.{amount, forbidden, columnOf, longOf, shifted, shiftOf, shiftReading};
 use crate::Reading;
 use crate::operands;
-use fields::Vector;
 use fields::dnum;
-use fields::vec;
 use immediates::shift::shift_amount;
 use immediates::shift::shift_code;
-use insn::Mark;
 use insn::Operand;
 use insn::Refusal;
 use tables::ShiftClass;
@@ -43,10 +40,10 @@ fn column(class: ShiftClass, l: u8, imm6: u8) -> u8
     }
 }
 
-fn amount_operand(k: u8) -> Vector
-    ensures { λ r. ⌜ vectorAnswer r ≡ amount k ⌝ }
+fn amount_operand(k: u8) -> Operand
+    ensures { λ r. ⌜ accepted r ≡ amount k ⌝ }
 {
-    Vector::Is(Operand::Imm(k as i64))
+    Operand::Imm(k as i64)
 }
 
 // The record of a mnemonic in a lengthening row; by 0 it has the mnemonic `moved` and no amount.
@@ -54,16 +51,9 @@ fn lengthened(mnemonic: u16, moved: u16, k: u8, d: u8, m: u8, address: u32) -> R
     ensures { λ r. ⌜ readingAnswer r ≡ longOf mnemonic moved k d m address ⌝ }
 {
     if k == 0 {
-        return operands::two_operands(moved, Mark::T1, address, vec(true, d), vec(false, m));
+        return operands::two_registers(moved, address, true, d, false, m);
     }
-    operands::three_operands(
-        mnemonic,
-        Mark::T1,
-        address,
-        vec(true, d),
-        vec(false, m),
-        amount_operand(k),
-    )
+    operands::two_registers_and_value(mnemonic, address, true, d, false, m, amount_operand(k))
 }
 
 // The record of a mnemonic in a row of the class.
@@ -79,39 +69,44 @@ fn with_amount(
 ) -> Reading
     ensures { λ r. ⌜ readingAnswer r ≡ shifted class mnemonic moved quad k d m address ⌝ }
 {
+    let value = amount_operand(k);
     match class {
-        ShiftClass::Narrow => operands::three_operands(
+        ShiftClass::Narrow => operands::two_registers_and_value(
             mnemonic,
-            Mark::T1,
             address,
-            vec(false, d),
-            vec(true, m),
-            amount_operand(k),
+            false,
+            d,
+            true,
+            m,
+            value,
         ),
         ShiftClass::Long => lengthened(mnemonic, moved, k, d, m, address),
-        ShiftClass::Right => operands::three_operands(
+        ShiftClass::Right => operands::two_registers_and_value(
             mnemonic,
-            Mark::T1,
             address,
-            vec(quad, d),
-            vec(quad, m),
-            amount_operand(k),
+            quad,
+            d,
+            quad,
+            m,
+            value,
         ),
-        ShiftClass::Left => operands::three_operands(
+        ShiftClass::Left => operands::two_registers_and_value(
             mnemonic,
-            Mark::T1,
             address,
-            vec(quad, d),
-            vec(quad, m),
-            amount_operand(k),
+            quad,
+            d,
+            quad,
+            m,
+            value,
         ),
-        ShiftClass::Convert => operands::three_operands(
+        ShiftClass::Convert => operands::two_registers_and_value(
             mnemonic,
-            Mark::T1,
             address,
-            vec(quad, d),
-            vec(quad, m),
-            amount_operand(k),
+            quad,
+            d,
+            quad,
+            m,
+            value,
         ),
     }
 }

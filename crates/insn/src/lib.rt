@@ -3,15 +3,15 @@ ghost use mathlib.Core.Path.{_≡_};
 ghost use Rattle.insn.specs.Record.{placeAt};
 ghost use Rattle.insn.specs.Refusals.{number};
 
-// One place of a record: a register by its number, a whole number, a float, an operand of another kind, or none.
+// One place of a record: none, a register by its number, a whole number, a float, or an operand of another kind.
 pub enum Operand {
+    Absent,
     D(u8),
     Q(u8),
     S(u8),
     Imm(i64),
     Float(f64),
     Other,
-    Absent,
 }
 
 // The manual's name of the encoding.

@@ -1,17 +1,15 @@
 -- What antt computes of the names: how many there are, that none is longer than 12 bytes, and which are pairwise.
 -- Assumes nothing.
 use mathlib.Core.Path.{_≡_, refl, sym, ap, _∙_}
-use mathlib.Core.Bool.{Bool, true, false}
+use mathlib.Core.Bool.{Bool, false}
 use mathlib.Core.List.{List, [], _∷_, map}
-use mathlib.Core.Logic.{⊎-elim}
-use Prim.Native.Nat.{ℕ, zero, suc, max, _+_, _*_, _<_, _≤_}
+use Prim.Native.Nat.{ℕ, zero, suc, max, _+_, _*_, _/_, _%_, _^_, _<_, _≤_}
 use Prim.Native.String.{String}
 use native.Mathlib.Nat.{le-max-left, le-max-right, le-trans}
 use native.Mathlib.Omega.{arith}
 use lib.ListN.{length, getD, List·getD-map, List·getD-eq-default}
-use lib.Dec.{T, ltb}
-use borrow.Author.Tests.{ltb-true, ltb-false}
-use Rattle.laws.proofs.Range.{values, agree-from}
+use lib.Dec.{eqb}
+use Rattle.laws.proofs.Range.{values, agree}
 use Rattle.laws.proofs.Padded.{laid, laid-at}
 use Rattle.tables.specs.Names.{names, nameOf, codes, nameByte, pairwise}
 
@@ -55,19 +53,14 @@ pub no-byte : (m j : ℕ) → 346 ≤ m → 32 ≡ nameByte m j
 unfolding nameByte codes
 no-byte m j h = sym (ap (λ (s : String). getD (codes s) j 32) (no-name m h))
 
--- the numbers from lo on, n of them, are all pairwise or none is
-pub stretch : (b : Bool) (lo n : ℕ) → values (λ (m : ℕ). b) lo n ≡ values (λ (m : ℕ). pairwise (nameOf m)) lo n → (m : ℕ) → lo ≤ m → m < lo + n → b ≡ pairwise (nameOf m)
-stretch b lo n e m h k = agree-from (λ (m : ℕ). b) (λ (m : ℕ). pairwise (nameOf m)) lo n e m h k
+-- which are pairwise, by one bit for each
+abbrev pairwiseBit : ℕ → Bool
+pairwiseBit m = eqb (getD (0 ∷ 0x73f0 ∷ 0x1813_f000_0000 ∷ 0 ∷ 0 ∷ 0 ∷ []) (m / 64) 0 / 2 ^ (m % 64) % 2) 1
 
-rest : (m : ℕ) → 173 ≤ m → m < 346 → false ≡ pairwise (nameOf m)
+pub pairwise-bit : (m : ℕ) → m < 346 → pairwiseBit m ≡ pairwise (nameOf m)
 unfolding values names nameOf pairwise
-rest = stretch false 173 173 refl
+pairwise-bit = agree pairwiseBit (λ (m : ℕ). pairwise (nameOf m)) 346 refl
 
--- no name from 173 on is pairwise
-pub no-more : (m : ℕ) → 173 ≤ m → false ≡ pairwise (nameOf m)
+pub no-pairwise : (m : ℕ) → 346 ≤ m → false ≡ pairwise (nameOf m)
 unfolding pairwise
-no-more m h = go (ltb m 346) refl
-  where
-    go : (b : Bool) → ltb m 346 ≡ b → false ≡ pairwise (nameOf m)
-    go true e = rest m h (ltb-true m 346 e)
-    go false e = sym (ap pairwise (no-name m (ltb-false m 346 e)))
+no-pairwise m h = sym (ap pairwise (no-name m h))

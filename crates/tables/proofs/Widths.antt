@@ -4,9 +4,11 @@ use mathlib.Core.Path.{_≡_, refl, sym, ap, _∙_}
 use mathlib.Core.List.{List, [], map}
 use Prim.Native.Nat.{ℕ, _+_, _*_, _/_, _%_, _<_, _≤_}
 use Prim.Native.String.{String}
+use lib.Dec.{eqb}
 use lib.Arith.{digits-div, digits-mod}
 use lib.ListN.{length, getD, List·getD-eq-default}
-use Rattle.laws.proofs.Range.{values, agree}
+use Rattle.laws.specs.Choice.{choose}
+use Rattle.laws.proofs.Range.{values, agree, agree2}
 use Rattle.tables.specs.Cells.{cellAt}
 use Rattle.tables.specs.Same3.{same3}
 use Rattle.tables.specs.Shift.{shiftRows, shiftCells, vmovl}
@@ -49,3 +51,18 @@ past table r c h =
 -- a cell by its row and column in one number
 pub flat-cell : (table : List (List String)) (w r c : ℕ) → c < w → cellAt table ((r * w + c) / w) ((r * w + c) % w) ≡ cellAt table r c
 flat-cell table w r c h = rw (digits-div r h, digits-mod r h)
+
+-- a mnemonic's number in a table of bytes, and back; 255 is a blank cell there
+abbrev pub byteCode : String → ℕ
+byteCode s = choose (eqb (numberOf s) blank) 255 (numberOf s)
+
+abbrev pub fromByte : ℕ → ℕ
+fromByte b = choose (eqb b 255) blank b
+
+pub same3-bytes : (r c : ℕ) → r < 64 → c < 4 → fromByte (byteCode (cellAt same3 r c)) ≡ numberOf (cellAt same3 r c)
+unfolding values same3 names numberOf
+same3-bytes = agree2 (λ (r c : ℕ). fromByte (byteCode (cellAt same3 r c))) (λ (r c : ℕ). numberOf (cellAt same3 r c)) 64 4 refl
+
+pub shift-bytes : (r c : ℕ) → r < 64 → c < 4 → fromByte (byteCode (cellAt shiftCells r c)) ≡ numberOf (cellAt shiftCells r c)
+unfolding values shiftRows shiftCells names numberOf
+shift-bytes = agree2 (λ (r c : ℕ). fromByte (byteCode (cellAt shiftCells r c))) (λ (r c : ℕ). numberOf (cellAt shiftCells r c)) 64 4 refl

@@ -106,39 +106,16 @@ pub fn byte(m: u16, j: u8) -> u8
     b' '
 }
 
+// Bit m % 64 of word m / 64 tells whether mnemonic m is pairwise.
+const PAIRWISE: [u64; 6] = [0, 0x73f0, 0x1813_f000_0000, 0, 0, 0];
+
 // Whether mnemonic m is pairwise: its spelling begins with vp.
 pub fn is_pairwise(m: u16) -> bool
     ensures { λ r. ⌜ r ≡ pairwise (nameOf m) ⌝ }
 {
-    if m < 68 {
+    if 346 <= m {
         return false;
     }
-    if m < 74 {
-        return true; // vpmax.s, vpmin.s
-    }
-    if m < 76 {
-        return false;
-    }
-    if m < 79 {
-        return true; // vpadd.i
-    }
-    if m < 156 {
-        return false;
-    }
-    if m < 162 {
-        return true; // vpmax.u, vpmin.u
-    }
-    if m < 164 {
-        return false;
-    }
-    if m < 165 {
-        return true; // vpadd.f32
-    }
-    if m < 171 {
-        return false;
-    }
-    if m < 173 {
-        return true; // vpmax.f32, vpmin.f32
-    }
-    false
+    let word = (m / 64) as usize;
+    (PAIRWISE[word] >> (m % 64)) % 2 == 1
 }

@@ -6,9 +6,11 @@ ghost use Rattle.tables.specs.Cells.{cellAt};
 ghost use Rattle.tables.specs.Names.{numberOf};
 ghost use Rattle.tables.specs.Shift.{shiftCells, shiftClasses, vmovl};
 use crate::BLANK;
+use crate::NONE;
 use crate::ShiftClass;
+use crate::numbered;
 
-const SHIFT_ROWS: [[u16; 4]; 64] = [
+const SHIFT_ROWS: [[u8; 4]; 64] = [
     [173, 174, 175, 176], // U=0 A=0000 B=0
     [173, 174, 175, 176], // U=0 A=0000 B=1
     [177, 178, 179, 180], // U=0 A=0001 B=0
@@ -17,30 +19,30 @@ const SHIFT_ROWS: [[u16; 4]; 64] = [
     [181, 182, 183, 184], // U=0 A=0010 B=1
     [185, 186, 187, 188], // U=0 A=0011 B=0
     [185, 186, 187, 188], // U=0 A=0011 B=1
-    [BLANK, BLANK, BLANK, BLANK], // U=0 A=0100 B=0
-    [BLANK, BLANK, BLANK, BLANK], // U=0 A=0100 B=1
+    [NONE, NONE, NONE, NONE], // U=0 A=0100 B=0
+    [NONE, NONE, NONE, NONE], // U=0 A=0100 B=1
     [189, 190, 191, 192], // U=0 A=0101 B=0
     [189, 190, 191, 192], // U=0 A=0101 B=1
-    [BLANK, BLANK, BLANK, BLANK], // U=0 A=0110 B=0
-    [BLANK, BLANK, BLANK, BLANK], // U=0 A=0110 B=1
+    [NONE, NONE, NONE, NONE], // U=0 A=0110 B=0
+    [NONE, NONE, NONE, NONE], // U=0 A=0110 B=1
     [31, 32, 33, 34], // U=0 A=0111 B=0
     [31, 32, 33, 34], // U=0 A=0111 B=1
-    [193, 194, 195, BLANK], // U=0 A=1000 B=0
-    [196, 197, 198, BLANK], // U=0 A=1000 B=1
-    [199, 200, 201, BLANK], // U=0 A=1001 B=0
-    [202, 203, 204, BLANK], // U=0 A=1001 B=1
-    [205, 206, 207, BLANK], // U=0 A=1010 B=0
-    [BLANK, BLANK, BLANK, BLANK], // U=0 A=1010 B=1
-    [BLANK, BLANK, BLANK, BLANK], // U=0 A=1011 B=0
-    [BLANK, BLANK, BLANK, BLANK], // U=0 A=1011 B=1
-    [BLANK, BLANK, BLANK, BLANK], // U=0 A=1100 B=0
-    [BLANK, BLANK, BLANK, BLANK], // U=0 A=1100 B=1
-    [BLANK, BLANK, BLANK, BLANK], // U=0 A=1101 B=0
-    [BLANK, BLANK, BLANK, BLANK], // U=0 A=1101 B=1
-    [208, BLANK, BLANK, BLANK], // U=0 A=1110 B=0
-    [208, BLANK, BLANK, BLANK], // U=0 A=1110 B=1
-    [209, BLANK, BLANK, BLANK], // U=0 A=1111 B=0
-    [209, BLANK, BLANK, BLANK], // U=0 A=1111 B=1
+    [193, 194, 195, NONE], // U=0 A=1000 B=0
+    [196, 197, 198, NONE], // U=0 A=1000 B=1
+    [199, 200, 201, NONE], // U=0 A=1001 B=0
+    [202, 203, 204, NONE], // U=0 A=1001 B=1
+    [205, 206, 207, NONE], // U=0 A=1010 B=0
+    [NONE, NONE, NONE, NONE], // U=0 A=1010 B=1
+    [NONE, NONE, NONE, NONE], // U=0 A=1011 B=0
+    [NONE, NONE, NONE, NONE], // U=0 A=1011 B=1
+    [NONE, NONE, NONE, NONE], // U=0 A=1100 B=0
+    [NONE, NONE, NONE, NONE], // U=0 A=1100 B=1
+    [NONE, NONE, NONE, NONE], // U=0 A=1101 B=0
+    [NONE, NONE, NONE, NONE], // U=0 A=1101 B=1
+    [208, NONE, NONE, NONE], // U=0 A=1110 B=0
+    [208, NONE, NONE, NONE], // U=0 A=1110 B=1
+    [209, NONE, NONE, NONE], // U=0 A=1111 B=0
+    [209, NONE, NONE, NONE], // U=0 A=1111 B=1
     [210, 211, 212, 213], // U=1 A=0000 B=0
     [210, 211, 212, 213], // U=1 A=0000 B=1
     [214, 215, 216, 217], // U=1 A=0001 B=0
@@ -57,22 +59,22 @@ const SHIFT_ROWS: [[u16; 4]; 64] = [
     [234, 235, 236, 237], // U=1 A=0110 B=1
     [121, 122, 123, 124], // U=1 A=0111 B=0
     [121, 122, 123, 124], // U=1 A=0111 B=1
-    [238, 239, 240, BLANK], // U=1 A=1000 B=0
-    [241, 242, 243, BLANK], // U=1 A=1000 B=1
-    [244, 245, 246, BLANK], // U=1 A=1001 B=0
-    [247, 248, 249, BLANK], // U=1 A=1001 B=1
-    [250, 251, 252, BLANK], // U=1 A=1010 B=0
-    [BLANK, BLANK, BLANK, BLANK], // U=1 A=1010 B=1
-    [BLANK, BLANK, BLANK, BLANK], // U=1 A=1011 B=0
-    [BLANK, BLANK, BLANK, BLANK], // U=1 A=1011 B=1
-    [BLANK, BLANK, BLANK, BLANK], // U=1 A=1100 B=0
-    [BLANK, BLANK, BLANK, BLANK], // U=1 A=1100 B=1
-    [BLANK, BLANK, BLANK, BLANK], // U=1 A=1101 B=0
-    [BLANK, BLANK, BLANK, BLANK], // U=1 A=1101 B=1
-    [253, BLANK, BLANK, BLANK], // U=1 A=1110 B=0
-    [253, BLANK, BLANK, BLANK], // U=1 A=1110 B=1
-    [254, BLANK, BLANK, BLANK], // U=1 A=1111 B=0
-    [254, BLANK, BLANK, BLANK], // U=1 A=1111 B=1
+    [238, 239, 240, NONE], // U=1 A=1000 B=0
+    [241, 242, 243, NONE], // U=1 A=1000 B=1
+    [244, 245, 246, NONE], // U=1 A=1001 B=0
+    [247, 248, 249, NONE], // U=1 A=1001 B=1
+    [250, 251, 252, NONE], // U=1 A=1010 B=0
+    [NONE, NONE, NONE, NONE], // U=1 A=1010 B=1
+    [NONE, NONE, NONE, NONE], // U=1 A=1011 B=0
+    [NONE, NONE, NONE, NONE], // U=1 A=1011 B=1
+    [NONE, NONE, NONE, NONE], // U=1 A=1100 B=0
+    [NONE, NONE, NONE, NONE], // U=1 A=1100 B=1
+    [NONE, NONE, NONE, NONE], // U=1 A=1101 B=0
+    [NONE, NONE, NONE, NONE], // U=1 A=1101 B=1
+    [253, NONE, NONE, NONE], // U=1 A=1110 B=0
+    [253, NONE, NONE, NONE], // U=1 A=1110 B=1
+    [254, NONE, NONE, NONE], // U=1 A=1111 B=0
+    [254, NONE, NONE, NONE], // U=1 A=1111 B=1
 ];
 
 // The class of each row: 0 right, 1 left, 2 narrowing, 3 lengthening, 4 conversion.
@@ -154,7 +156,7 @@ pub fn cell(k: u8) -> u16
 {
     let row = (k / 4) as usize;
     let column = (k % 4) as usize;
-    SHIFT_ROWS[row][column]
+    numbered(SHIFT_ROWS[row][column])
 }
 
 // How the amounts of the row U:A:B are read; a row past the table is read as a blank one.

@@ -7,15 +7,15 @@ use Rattle.decode.proofs.diff.with_shape.Tie as tie
 
 returns : tie.Need-returns
 unfolding shaped
-returns c = rw (c .before .before .before .before .enum-told .given .1) (rw (← c .before .before .before .vec .ensures, ← c .before .before .vec2 .ensures, ← c .before .vec3 .ensures) (c .three-operands .ensures))
+returns c = rw (c .before .enum-told .given .1) (c .three-registers .ensures)
 
 returns-2 : tie.Need-returns-2
 unfolding shaped
-returns-2 c = rw (c .before .before .before .before .enum-told2 .given .1) (rw (← c .before .before .before .vec4 .ensures, ← c .before .before .vec5 .ensures, ← c .before .vec6 .ensures) (c .three-operands2 .ensures))
+returns-2 c = rw (c .before .enum-told2 .given .1) (c .three-registers2 .ensures)
 
 returns-3 : tie.Need-returns-3
 unfolding shaped
-returns-3 c = rw (c .before .before .before .before .enum-told3 .given .1) (rw (← c .before .before .before .vec7 .ensures, ← c .before .before .vec8 .ensures, ← c .before .vec9 .ensures) (c .three-operands3 .ensures))
+returns-3 c = rw (c .before .enum-told3 .given .1) (c .three-registers3 .ensures)
 
 pub with-shape-spec : {M : Type 1} → statement M
-with-shape-spec = tie.close (tie.spec (λ c. search needs) (λ c κs. search needs) (λ c κs. search needs) (λ c κs. search needs) (λ c κs. search needs) (λ c. search needs) (λ c κs. search needs) (λ c κs. search needs) (λ c κs. search needs) (λ c κs. search needs) (λ c. search needs) (λ c κs. search needs) (λ c κs. search needs) (λ c κs. search needs) (λ c κs. search needs) returns returns-2 returns-3)
+with-shape-spec = tie.close (tie.spec (λ c. search needs) (λ c κs. search needs) (λ c. search needs) (λ c κs. search needs) (λ c. search needs) (λ c κs. search needs) returns returns-2 returns-3)

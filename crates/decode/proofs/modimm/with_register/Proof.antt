@@ -38,13 +38,13 @@ returns-2 c =
 returns-3 : tie.Need-returns-3
 unfolding modimmOf
 returns-3 c =
-    let a = c .before .before .before .before .before .before .before .args in
-    let h = c .before .before .before .before .before .before .before .pre in
-    let same = c .before .before .before .before .before .before .cell .ensures ∙ ap numberOf (flat-cell modimm 16 (a .op) (a .cmode) (h .1)) in
+    let a = c .before .before .before .before .before .before .args in
+    let h = c .before .before .before .before .before .before .pre in
+    let same = c .before .before .before .before .before .cell .ensures ∙ ap numberOf (flat-cell modimm 16 (a .op) (a .cmode) (h .1)) in
     let full : eqt (cellAt modimm (a .op) (a .cmode)) "" ≡ false =
     ap (λ (s : String). eqt s "") (sym (modimm-known (a .op) (a .cmode) (h .0) (h .1))) ∙ named _ (omega (arith, same)) in
-    rw (full, sym (c .before .before .before .before .is-zero-refused .ensures) ∙ c .before .before .before .if2 .left)
-    (rw (← same, ← c .before .vec .ensures, ← c .before .before .modimm-operand .ensures) (c .two-operands .ensures))
+    rw (full, sym (c .before .before .before .is-zero-refused .ensures) ∙ c .before .before .if2 .left)
+    (rw (← same, ← c .before .modimm-operand .ensures) (c .register-and-value .ensures))
 
 pub with-register-spec : {M : Type 1} → statement M
-with-register-spec = tie.close (tie.spec (λ c. search needs) (λ c. search needs) (λ c κs. search needs) returns (λ c κs. search needs) returns-2 (λ c κs. search needs) (λ c κs. search needs) (λ c κs. search needs) returns-3)
+with-register-spec = tie.close (tie.spec (λ c. search needs) (λ c. search needs) (λ c κs. search needs) returns (λ c κs. search needs) returns-2 (λ c κs. search needs) (λ c κs. search needs) returns-3)

@@ -20,20 +20,20 @@ returns-2 c = rw (named _ (c .before .before .if1 .left), sym (c .before .is-pai
 returns-3 : tie.Need-returns-3
 unfolding same3Of
 returns-3 c =
-    rw (named _ (c .before .before .before .before .before .before .before .if1 .left), sym (c .before .before .before .before .before .before .is-pairwise-quad .ensures) ∙ c .before .before .before .before .before .if2 .left, sym (c .before .before .before .before .is-move .ensures) ∙ c .before .before .before .if3 .taken, vmov-number)
-    (rw (← c .before .before .vec .ensures, ← c .before .vec2 .ensures) (c .two-operands .ensures))
+    rw (named _ (c .before .before .before .before .before .if1 .left), sym (c .before .before .before .before .is-pairwise-quad .ensures) ∙ c .before .before .before .if2 .left, sym (c .before .before .is-move .ensures) ∙ c .before .if3 .taken, vmov-number)
+    (c .two-registers .ensures)
 
 returns-4 : tie.Need-returns-4
 unfolding same3Of
 returns-4 c =
-    rw (named _ (c .before .before .before .before .before .before .before .before .before .if1 .left), sym (c .before .before .before .before .before .before .before .before .is-pairwise-quad .ensures) ∙ c .before .before .before .before .before .before .before .if2 .left, sym (c .before .before .before .before .before .before .is-move .ensures) ∙ c .before .before .before .before .before .if3 .left, eq-eqb _ _ (c .before .before .before .before .if4 .taken), numbersBack _ (c .before .before .before .before .before .before .before .before .before .if1 .left))
-    (rw (← c .before .before .before .vec3 .ensures, ← c .before .before .vec4 .ensures, ← c .before .vec5 .ensures) (c .three-operands .ensures))
+    rw (named _ (c .before .before .before .before .before .before .if1 .left), sym (c .before .before .before .before .before .is-pairwise-quad .ensures) ∙ c .before .before .before .before .if2 .left, sym (c .before .before .before .is-move .ensures) ∙ c .before .before .if3 .left, eq-eqb _ _ (c .before .if4 .taken), numbersBack _ (c .before .before .before .before .before .before .if1 .left))
+    (c .three-registers .ensures)
 
 returns-5 : tie.Need-returns-5
 unfolding same3Of
 returns-5 c =
-    rw (named _ (c .before .before .before .before .before .before .before .before .before .if1 .left), sym (c .before .before .before .before .before .before .before .before .is-pairwise-quad .ensures) ∙ c .before .before .before .before .before .before .before .if2 .left, sym (c .before .before .before .before .before .before .is-move .ensures) ∙ c .before .before .before .before .before .if3 .left, ne-eqb _ _ (c .before .before .before .before .if4 .left), numbersBack _ (c .before .before .before .before .before .before .before .before .before .if1 .left))
-    (rw (← c .before .before .before .vec6 .ensures, ← c .before .before .vec7 .ensures, ← c .before .vec8 .ensures) (c .three-operands2 .ensures))
+    rw (named _ (c .before .before .before .before .before .before .if1 .left), sym (c .before .before .before .before .before .is-pairwise-quad .ensures) ∙ c .before .before .before .before .if2 .left, sym (c .before .before .before .is-move .ensures) ∙ c .before .before .if3 .left, ne-eqb _ _ (c .before .if4 .left), numbersBack _ (c .before .before .before .before .before .before .if1 .left))
+    (c .three-registers2 .ensures)
 
 pub with-registers-spec : {M : Type 1} → statement M
-with-registers-spec = tie.close (tie.spec returns (λ c κs. search needs) returns-2 (λ c κs. search needs) (λ c κs. search needs) (λ c κs. search needs) (λ c κs. search needs) returns-3 (λ c κs. search needs) (λ c κs. search needs) (λ c κs. search needs) (λ c κs. search needs) returns-4 (λ c κs. search needs) (λ c κs. search needs) (λ c κs. search needs) (λ c κs. search needs) returns-5)
+with-registers-spec = tie.close (tie.spec returns (λ c κs. search needs) returns-2 (λ c κs. search needs) (λ c κs. search needs) returns-3 (λ c κs. search needs) returns-4 (λ c κs. search needs) returns-5)

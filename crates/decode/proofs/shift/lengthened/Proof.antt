@@ -8,11 +8,11 @@ use Rattle.decode.proofs.shift.lengthened.Tie as tie
 
 returns : tie.Need-returns
 unfolding longOf
-returns c = rw (eq-eqb _ _ (c .before .before .before .if1 .taken)) (rw (← c .before .before .vec .ensures, ← c .before .vec2 .ensures) (c .two-operands .ensures))
+returns c = rw (eq-eqb _ _ (c .before .if1 .taken)) (c .two-registers .ensures)
 
 returns-2 : tie.Need-returns-2
 unfolding longOf
-returns-2 c = rw (ne-eqb _ _ (c .before .before .before .before .if1 .left)) (rw (← c .before .before .before .vec3 .ensures, ← c .before .before .vec4 .ensures, ← c .before .amount-operand .ensures) (c .three-operands .ensures))
+returns-2 c = rw (ne-eqb _ _ (c .before .before .if1 .left), ← c .before .amount-operand .ensures) (c .two-registers-and-value .ensures)
 
 pub lengthened-spec : {M : Type 1} → statement M
-lengthened-spec = tie.close (tie.spec (λ c κs. search needs) (λ c κs. search needs) (λ c κs. search needs) returns (λ c κs. search needs) (λ c κs. search needs) (λ c κs. search needs) (λ c κs. search needs) returns-2)
+lengthened-spec = tie.close (tie.spec (λ c κs. search needs) returns (λ c κs. search needs) (λ c κs. search needs) returns-2)

@@ -1,0 +1,18 @@
+-- `decode::operands::register_and_value` meets its contract.
+-- Assumes nothing.
+use native.Mathlib.Omega.{arith}
+use borrow.Author.Needs.{needs}
+use Rattle.decode.specs.Operands.{two}
+use Rattle.decode.proofs.Vectors.{even, one-odd}
+use Rattle.decode.proofs.operands.register_and_value.Statement.{statement}
+use Rattle.decode.proofs.operands.register_and_value.Tie as tie
+
+returns : tie.Need-returns
+returns c = one-odd _ _ _ _ _ _ (rw (c .before .odd-quad .ensures .0) at (c .if1 .taken))
+
+returns-2 : tie.Need-returns-2
+unfolding two
+returns-2 c = rw (even _ _ (rw (c .before .before .odd-quad .ensures .0) at (c .before .if1 .left)), c .register .ensures)
+
+pub register-and-value-spec : {M : Type 1} → statement M
+register-and-value-spec = tie.close (tie.spec (λ c κs. search needs) returns (λ c κs. search needs) returns-2)
