@@ -48,10 +48,10 @@ pub fn family_of(hw1: u16, hw2: u16) -> Family
     if hw2 / 64 % 2 == 1 {
         return Family::NoFamily;
     }
-    if hw1 / 16 % 4 == 3 {
-        return Family::NoFamily;
+    if hw1 / 16 % 4 != 3 {
+        return Family::ThreeDifferent;
     }
-    Family::ThreeDifferent
+    Family::NoFamily // other tables of A7.4
 }
 
 // Reads a pair at an address.
