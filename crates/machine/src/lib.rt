@@ -1,0 +1,3 @@
+// The register machine: one instruction on a file of 32 doublewords.
+pub mod forms;
+pub mod operations;
