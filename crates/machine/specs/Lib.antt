@@ -1,2 +1,4 @@
 pub mod Operations
 pub mod Forms
+pub mod Meaning
+pub mod Answers

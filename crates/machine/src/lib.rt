@@ -1,3 +1,4 @@
 // The register machine: one instruction on a file of 32 doublewords.
 pub mod forms;
+pub mod meanings;
 pub mod operations;
