@@ -1,4 +1,6 @@
+pub mod File
 pub mod Operations
 pub mod Forms
 pub mod Meaning
+pub mod Step
 pub mod Answers

@@ -23,7 +23,7 @@ use Rattle.machine.specs.declared.operations.Operation.the-variants.{Lan
 use Rattle.machine.specs.declared.forms.Direction.{Direction}
 use Rattle.machine.specs.declared.forms.Direction.the-variants.{Left, Right}
 use Rattle.machine.specs.declared.forms.Form.{Form}
-use Rattle.machine.specs.declared.forms.Form.the-variants.{Three, Copy, Shift, Number, Float as RealNumber, Nothing}
+use Rattle.machine.specs.declared.forms.Form.the-variants as form
 use Rattle.machine.specs.declared.meanings.Registers.{Registers}
 use Rattle.machine.specs.Forms.{formOf}
 
@@ -65,22 +65,24 @@ shiftBy (Right s) k = Shr s k
 
 -- How many operands a form has, and what they are: a is the target, b and c are sources. An amount is at most 64, for every width.
 abbrev pub countOf : Form → ℕ
-countOf (Three op) = 3
-countOf Copy = 2
-countOf (Shift way w) = 3
-countOf (Number op w) = 2
-countOf RealNumber = 2
-countOf Nothing = 0
+countOf (form.Lanes op w) = 3
+countOf (form.Bits op) = 3
+countOf form.Copy = 2
+countOf (form.Shift way w) = 3
+countOf (form.Number op w) = 2
+countOf form.Float = 2
+countOf form.Nothing = 0
 
 unfoldable pub meaningIn : Form → Operand → Operand → Operand → Answer Act
-meaningIn (Three op) a b c = on op a b c
-meaningIn Copy a b c = on (Bitwise Mov) a b b
-meaningIn (Shift way w) a b c = andThen (wholeOf c) (λ k. choose (leb k 64) (on (Lanes (shiftBy way k) w) a b b) (refused 10))
-meaningIn (Number op w) a b c = andThen (wholeOf b) (λ p. on (Constant op (repeated w p)) a a a)
-meaningIn RealNumber a b c = refused 10
-meaningIn Nothing a b c = refused 10
+meaningIn (form.Lanes op w) a b c = on (Lanes op w) a b c
+meaningIn (form.Bits op) a b c = on (Bitwise op) a b c
+meaningIn form.Copy a b c = on (Bitwise Mov) a b b
+meaningIn (form.Shift way w) a b c = andThen (wholeOf c) (λ k. choose (leb k 64) (on (Lanes (shiftBy way k) w) a b b) (refused 10))
+meaningIn (form.Number op w) a b c = andThen (wholeOf b) (λ p. on (Constant op (repeated w p)) a a a)
+meaningIn form.Float a b c = refused 10
+meaningIn form.Nothing a b c = refused 10
 
 unfoldable pub meaningOf : Insn → Answer Act
 meaningOf i =
-    let form = formOf (nameOf (i .mnemonic)) in
-    choose (eqb (i .count) (countOf form)) (meaningIn form (i .first) (i .second) (i .third)) (refused 10)
+    let f = formOf (nameOf (i .mnemonic)) in
+    choose (eqb (i .count) (countOf f)) (meaningIn f (i .first) (i .second) (i .third)) (refused 10)

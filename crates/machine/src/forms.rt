@@ -1,13 +1,11 @@
 // What a mnemonic's operands are, and what it does with them.
 ghost use mathlib.Core.Path.{_≡_};
 ghost use Prim.Native.Nat.{_<_, _≤_};
-ghost use Rattle.machine.specs.declared.forms.Form.the-variants.{Three};
-ghost use Rattle.machine.specs.declared.operations.Operation.the-variants.{Lanes};
+ghost use Rattle.machine.specs.declared.forms.Form.the-variants.{Lanes};
 ghost use Rattle.machine.specs.Forms.{formOf, widthAt};
 ghost use Rattle.tables.specs.Names.{nameOf};
 use crate::operations::BitOp;
 use crate::operations::ConstantOp;
-use crate::operations::Operation;
 use lanes::LaneOp;
 use lanes::Sign;
 use lanes::Width;
@@ -20,8 +18,10 @@ pub enum Direction {
 
 // The operands that a mnemonic takes, and what it does with them.
 pub enum Form {
-    // Target and two sources.
-    Three(Operation),
+    // Target and two sources, lane by lane.
+    Lanes(LaneOp, Width),
+    // Target and two sources, bit by bit.
+    Bits(BitOp),
     // Target and the source that is copied.
     Copy,
     // Target, source and amount.
@@ -48,9 +48,9 @@ fn width_at(k: u16) -> Width
 
 // The form of a lane operation at the width k.
 fn lanes_at(op: LaneOp, k: u16) -> Form
-    ensures { λ r. ⌜ r ≡ Three (Lanes op (widthAt k)) ⌝ }
+    ensures { λ r. ⌜ r ≡ Lanes op (widthAt k) ⌝ }
 {
-    Form::Three(Operation::Lanes(op, width_at(k)))
+    Form::Lanes(op, width_at(k))
 }
 
 // The names of three registers in the first half of their table.
@@ -60,10 +60,10 @@ fn lower_form(m: u16) -> Form
 {
     match m {
         0..=9 => Form::Nothing,
-        10 => Form::Three(Operation::Bits(BitOp::And)),
-        11 => Form::Three(Operation::Bits(BitOp::Bic)),
-        12 => Form::Three(Operation::Bits(BitOp::Orr)),
-        13 => Form::Three(Operation::Bits(BitOp::Orn)),
+        10 => Form::Bits(BitOp::And),
+        11 => Form::Bits(BitOp::Bic),
+        12 => Form::Bits(BitOp::Orr),
+        13 => Form::Bits(BitOp::Orn),
         14..=20 => Form::Nothing,
         21..=23 => lanes_at(LaneOp::Cgt(Sign::Signed), m - 21),
         24..=26 => lanes_at(LaneOp::Cge(Sign::Signed), m - 24),
@@ -85,10 +85,10 @@ fn upper_form(m: u16) -> Form
     ensures { λ r. ⌜ r ≡ formOf (nameOf m) ⌝ }
 {
     match m {
-        0..=100 => Form::Three(Operation::Bits(BitOp::Eor)),
-        101 => Form::Three(Operation::Bits(BitOp::Bsl)),
-        102 => Form::Three(Operation::Bits(BitOp::Bit)),
-        103 => Form::Three(Operation::Bits(BitOp::Bif)),
+        0..=100 => Form::Bits(BitOp::Eor),
+        101 => Form::Bits(BitOp::Bsl),
+        102 => Form::Bits(BitOp::Bit),
+        103 => Form::Bits(BitOp::Bif),
         104..=110 => Form::Nothing,
         111..=113 => lanes_at(LaneOp::Cgt(Sign::Unsigned), m - 111),
         114..=116 => lanes_at(LaneOp::Cge(Sign::Unsigned), m - 114),

@@ -37,7 +37,8 @@ fn count(form: Form) -> u8
     ensures { λ r. ⌜ r ≡ countOf form ⌝ }
 {
     match form {
-        Form::Three(_) => 3,
+        Form::Lanes(_, _) => 3,
+        Form::Bits(_) => 3,
         Form::Copy => 2,
         Form::Shift(_, _) => 3,
         Form::Number(_, _) => 2,
@@ -141,7 +142,8 @@ fn meaning_in(form: Form, a: Operand, b: Operand, c: Operand) -> Meaning
     ensures { λ r. ⌜ meaningAnswer r ≡ meaningIn form a b c ⌝ }
 {
     match form {
-        Form::Three(op) => on_registers(op, a, b, c),
+        Form::Lanes(op, w) => on_registers(Operation::Lanes(op, w), a, b, c),
+        Form::Bits(op) => on_registers(Operation::Bits(op), a, b, c),
         Form::Copy => on_registers(Operation::Bits(BitOp::Mov), a, b, b),
         Form::Shift(way, w) => shifted(way, w, a, b, c),
         Form::Number(op, w) => with_number(op, w, a, b),
