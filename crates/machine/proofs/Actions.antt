@@ -24,16 +24,11 @@ use Rattle.machine.specs.declared.forms.Form.the-variants as form
 use Rattle.machine.specs.declared.meanings.Registers.{Registers}
 use Rattle.machine.specs.Forms.{formOf}
 use Rattle.machine.specs.Meaning.{Act, act, registers, acting, on, wholeOf, repeated, shiftBy, countOf, meaningIn, meaningOf}
+use Rattle.machine.specs.Operations.{Sized}
 use Rattle.machine.specs.Step.{Within}
 
 never : {A : Type 0} → _≡_ {A = ℕ} 0 1 → A
 never e = absurd (let z : ⊥ = omega arith in z)
-
--- a constant has 64 bits
-abbrev pub Sound : Operation → Type 0
-Sound (Lanes op w) = Unit
-Sound (Bitwise op) = Unit
-Sound (Constant op p) = p < 2 ^ 64
 
 pub repeated-lt : (w : Width) (p : ℕ) → repeated w p < 2 ^ 64
 unfolding repeated
@@ -48,7 +43,7 @@ module _ (P : Answer Act → Type 0) (none : (n : ℕ) → P (refused n)) where
   pick true h = h
   pick false h = none 10
 
-  module _ (a : Operand) (each : (op : Operation) (b c : Operand) → Sound op → P (on op a b c)) where
+  module _ (a : Operand) (each : (op : Operation) (b c : Operand) → Sized op → P (on op a b c)) where
     in-form : (f : Form) (b c : Operand) → P (meaningIn f a b c)
     unfolding meaningIn
     in-form (form.Lanes op w) b c = each (Lanes op w) b c tt
@@ -67,7 +62,7 @@ module _ (P : Answer Act → Type 0) (none : (n : ℕ) → P (refused n)) where
     in-form form.Float b c = none 10
     in-form form.Nothing b c = none 10
 
-  pub every : (i : Insn) → ((op : Operation) (b c : Operand) → Sound op → P (on op (i .first) b c)) → P (meaningOf i)
+  pub every : (i : Insn) → ((op : Operation) (b c : Operand) → Sized op → P (on op (i .first) b c)) → P (meaningOf i)
   unfolding meaningOf
   every i each =
       let f = formOf (nameOf (i .mnemonic)) in
@@ -101,11 +96,11 @@ beq-true false true e = never (cc)
 -- what is known of an operation and its registers, where a is the target's place
 pub record Known (a : Operand) (op : Operation) (r : Registers) : Type 0 where
   pub within : Within r
-  pub sound : Sound op
+  pub sized : Sized op
   pub target : vecBits a ≡ accepted (bits (r .quad) (r .d))
 
 -- an operation on registers that were read
-module _ (o : Operation) (a b c : Operand) (s : Sound o) (op : Operation) (r : Registers) where
+module _ (o : Operation) (a b c : Operand) (s : Sized o) (op : Operation) (r : Registers) where
   known : (x y z : Answer Bits) → vecBits a ≡ x → vecBits b ≡ y → vecBits c ≡ z → acting o x y z ≡ accepted (act op r) → Known a op r
   unfolding acting
   known (accepted (bits p d)) (accepted (bits q n)) (accepted (bits t m)) ea eb ec e = go (Bool·beq p q) refl (Bool·beq p t) refl e
@@ -121,7 +116,7 @@ module _ (o : Operation) (a b c : Operand) (s : Sound o) (op : Operation) (r : R
           subst (λ (r : Registers). Known a op r) same
           (record {
             within = record { lower = (fa .0, fb .0, fc .0); upper = λ h. (fa .1 h, fb .1 h, fc .1 h) };
-            sound = subst Sound k s;
+            sized = subst Sized k s;
             target = ea;
           })
       go true hu false hv f = never (cc)

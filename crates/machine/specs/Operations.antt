@@ -1,7 +1,7 @@
 -- What an operation leaves in its target: document 01, 'Register machine', and ARM DDI 0406C, A8.8.
 -- d is the old target, n and m are the sources; `size` is 64 for a doubleword and 128 for a quadword.
 -- Assumes nothing.
-use Prim.Native.Nat.{ℕ, _-_, _/_, _^_}
+use Prim.Native.Nat.{ℕ, _-_, _/_, _^_, _<_}
 use lib.Bits.{bitAnd, bitOr, bitXor}
 use Rattle.immediates.specs.Modified.{copies}
 use Rattle.lanes.specs.Lane.{lanesOf}
@@ -39,3 +39,9 @@ unfoldable pub valueOf : ℕ → Operation → ℕ → ℕ → ℕ → ℕ
 valueOf size (Lanes op w) d n m = lanesOf size op w d n m
 valueOf size (Bits op) d n m = bitwise size op d n m
 valueOf size (Constant op p) d n m = withConstant size op (copies (size / 64) 64 p) d
+
+-- an operation whose constant, if it has one, is of 64 bits
+abbrev pub Sized : Operation → Type 0
+Sized (Lanes op w) = Unit
+Sized (Bits op) = Unit
+Sized (Constant op p) = p < 2 ^ 64
