@@ -13,17 +13,22 @@ use Rattle.insn.specs.declared.Insn.{Insn}
 use Rattle.insn.specs.declared.Operand.{Operand}
 use Rattle.insn.specs.declared.Operand.the-variants.{D, Q, S, Imm, Float, Other, Absent}
 use Rattle.tables.specs.Names.{nameOf}
+use Rattle.tables.specs.Search.{Found, at, none}
 use Rattle.fields.specs.Registers.{Bits, bits, vecBits}
+use Rattle.immediates.specs.Floats.{floatBits}
+use Rattle.immediates.specs.Found.{findFloat}
+use Rattle.immediates.specs.Modified.{copies}
 use Rattle.lanes.specs.declared.Width.{Width}
 use Rattle.lanes.specs.declared.Width.the-variants.{B8, B16, B32, B64}
 use Rattle.machine.specs.declared.operations.BitOp.the-variants.{Mov}
+use Rattle.machine.specs.declared.operations.ConstantOp.the-variants.{Mov as Set}
 use Rattle.machine.specs.declared.operations.Operation.{Operation}
 use Rattle.machine.specs.declared.operations.Operation.the-variants.{Lanes, Bits as Bitwise, Constant}
 use Rattle.machine.specs.declared.forms.Form.{Form}
 use Rattle.machine.specs.declared.forms.Form.the-variants as form
 use Rattle.machine.specs.declared.meanings.Registers.{Registers}
 use Rattle.machine.specs.Forms.{formOf}
-use Rattle.machine.specs.Meaning.{Act, act, registers, acting, on, wholeOf, repeated, shiftBy, countOf, meaningIn, meaningOf}
+use Rattle.machine.specs.Meaning.{Act, act, registers, acting, on, wholePattern, patternAt, floatPattern, repeated, shiftBy, countOf, meaningIn, meaningOf}
 use Rattle.machine.specs.Operations.{Sized}
 use Rattle.machine.specs.Step.{Within}
 
@@ -37,11 +42,29 @@ repeated-lt B16 p = let h = mod-lt p {m = 65536} (lit< tt) in omega arith
 repeated-lt B32 p = let h = mod-lt p {m = 4294967296} (lit< tt) in omega arith
 repeated-lt B64 p = let h = mod-lt p {m = 18446744073709551616} (lit< tt) in omega arith
 
+bits-lt : (b : ℕ) → floatBits b < 2 ^ 32
+bits-lt b = omega arith
+
+-- a float's pattern has 64 bits
+float-lt : (o : Operand) (p : ℕ) → floatPattern o ≡ accepted p → p < 2 ^ 64
+unfolding floatPattern
+float-lt (Float x) p e = go (findFloat x) e
+  where
+    go : (f : Found) → patternAt f ≡ accepted p → p < 2 ^ 64
+    go (at b) k = let m : copies 2 32 (floatBits b) ≡ p = cc in let l = bits-lt b in omega arith
+    go none k = never (cc)
+float-lt (D n) p e = never (cc)
+float-lt (Q n) p e = never (cc)
+float-lt (S n) p e = never (cc)
+float-lt (Imm v) p e = never (cc)
+float-lt Other p e = never (cc)
+float-lt Absent p e = never (cc)
+
 -- what holds of every refusal, and of each operation on the first place's register, holds of every meaning
-module _ (P : Answer Act → Type 0) (none : (n : ℕ) → P (refused n)) where
+module _ (P : Answer Act → Type 0) (stop : (n : ℕ) → P (refused n)) where
   pick : (t : Bool) {x : Answer Act} → P x → P (choose t x (refused 10))
   pick true h = h
-  pick false h = none 10
+  pick false h = stop 10
 
   module _ (a : Operand) (each : (op : Operation) (b c : Operand) → Sized op → P (on op a b c)) where
     in-form : (f : Form) (b c : Operand) → P (meaningIn f a b c)
@@ -49,18 +72,22 @@ module _ (P : Answer Act → Type 0) (none : (n : ℕ) → P (refused n)) where
     in-form (form.Lanes op w) b c = each (Lanes op w) b c tt
     in-form (form.Bits op) b c = each (Bitwise op) b c tt
     in-form form.Copy b c = each (Bitwise Mov) b b tt
-    in-form (form.Shift way w) b c = go (wholeOf c)
+    in-form (form.Shift way w) b c = go (wholePattern c)
       where
         go : (x : Answer ℕ) → P (andThen x (λ k. choose (leb k 64) (on (Lanes (shiftBy way k) w) a b b) (refused 10)))
         go (accepted k) = pick (leb k 64) (each (Lanes (shiftBy way k) w) b b tt)
-        go (refused n) = none n
-    in-form (form.Number op w) b c = go (wholeOf b)
+        go (refused n) = stop n
+    in-form (form.Number op w) b c = go (wholePattern b)
       where
         go : (x : Answer ℕ) → P (andThen x (λ p. on (Constant op (repeated w p)) a a a))
         go (accepted p) = each (Constant op (repeated w p)) a a (repeated-lt w p)
-        go (refused n) = none n
-    in-form form.Float b c = none 10
-    in-form form.Nothing b c = none 10
+        go (refused n) = stop n
+    in-form form.Float b c = go (floatPattern b) (float-lt b)
+      where
+        go : (x : Answer ℕ) → ((p : ℕ) → x ≡ accepted p → p < 2 ^ 64) → P (andThen x (λ p. on (Constant Set p) a a a))
+        go (accepted p) h = each (Constant Set p) a a (h p refl)
+        go (refused n) h = stop n
+    in-form form.Nothing b c = stop 10
 
   pub every : (i : Insn) → ((op : Operation) (b c : Operand) → Sized op → P (on op (i .first) b c)) → P (meaningOf i)
   unfolding meaningOf

@@ -10,7 +10,10 @@ use Rattle.insn.specs.declared.Insn.{Insn}
 use Rattle.insn.specs.declared.Operand.{Operand}
 use Rattle.insn.specs.declared.Operand.the-variants.{D, Q, S, Imm, Float, Other, Absent}
 use Rattle.tables.specs.Names.{nameOf}
+use Rattle.tables.specs.Search.{Found, at, none}
 use Rattle.fields.specs.Registers.{Bits, bits, vecBits}
+use Rattle.immediates.specs.Floats.{floatBits}
+use Rattle.immediates.specs.Found.{findFloat}
 use Rattle.immediates.specs.Modified.{copies}
 use Rattle.immediates.specs.Signed.{patternOf}
 use Rattle.lanes.specs.Lane.{bitsOf}
@@ -18,6 +21,7 @@ use Rattle.lanes.specs.declared.LaneOp.{LaneOp}
 use Rattle.lanes.specs.declared.LaneOp.the-variants.{Shl, Shr}
 use Rattle.lanes.specs.declared.Width.{Width}
 use Rattle.machine.specs.declared.operations.BitOp.the-variants.{Mov}
+use Rattle.machine.specs.declared.operations.ConstantOp.the-variants.{Mov as Set}
 use Rattle.machine.specs.declared.operations.Operation.{Operation}
 use Rattle.machine.specs.declared.operations.Operation.the-variants.{Lanes, Bits as Bitwise, Constant}
 use Rattle.machine.specs.declared.forms.Direction.{Direction}
@@ -46,14 +50,28 @@ abbrev pub on : Operation → Operand → Operand → Operand → Answer Act
 on op a b c = acting op (vecBits a) (vecBits b) (vecBits c)
 
 -- the 64 bits of a whole number
-unfoldable pub wholeOf : Operand → Answer ℕ
-wholeOf (Imm v) = accepted (patternOf v)
-wholeOf (D n) = refused 10
-wholeOf (Q n) = refused 10
-wholeOf (S n) = refused 10
-wholeOf (Float x) = refused 10
-wholeOf Other = refused 10
-wholeOf Absent = refused 10
+unfoldable pub wholePattern : Operand → Answer ℕ
+wholePattern (Imm v) = accepted (patternOf v)
+wholePattern (D n) = refused 10
+wholePattern (Q n) = refused 10
+wholePattern (S n) = refused 10
+wholePattern (Float x) = refused 10
+wholePattern Other = refused 10
+wholePattern Absent = refused 10
+
+-- the single-precision pattern of a float that a pair carries, twice
+abbrev pub patternAt : Found → Answer ℕ
+patternAt (at b) = accepted (copies 2 32 (floatBits b))
+patternAt none = refused 10
+
+unfoldable pub floatPattern : Operand → Answer ℕ
+floatPattern (Float x) = patternAt (findFloat x)
+floatPattern (D n) = refused 10
+floatPattern (Q n) = refused 10
+floatPattern (S n) = refused 10
+floatPattern (Imm v) = refused 10
+floatPattern Other = refused 10
+floatPattern Absent = refused 10
 
 -- the lowest bits of p, as many as the width has, in every element of 64 bits
 unfoldable pub repeated : Width → ℕ → ℕ
@@ -77,9 +95,9 @@ unfoldable pub meaningIn : Form → Operand → Operand → Operand → Answer A
 meaningIn (form.Lanes op w) a b c = on (Lanes op w) a b c
 meaningIn (form.Bits op) a b c = on (Bitwise op) a b c
 meaningIn form.Copy a b c = on (Bitwise Mov) a b b
-meaningIn (form.Shift way w) a b c = andThen (wholeOf c) (λ k. choose (leb k 64) (on (Lanes (shiftBy way k) w) a b b) (refused 10))
-meaningIn (form.Number op w) a b c = andThen (wholeOf b) (λ p. on (Constant op (repeated w p)) a a a)
-meaningIn form.Float a b c = refused 10
+meaningIn (form.Shift way w) a b c = andThen (wholePattern c) (λ k. choose (leb k 64) (on (Lanes (shiftBy way k) w) a b b) (refused 10))
+meaningIn (form.Number op w) a b c = andThen (wholePattern b) (λ p. on (Constant op (repeated w p)) a a a)
+meaningIn form.Float a b c = andThen (floatPattern b) (λ p. on (Constant Set p) a a a)
 meaningIn form.Nothing a b c = refused 10
 
 unfoldable pub meaningOf : Insn → Answer Act

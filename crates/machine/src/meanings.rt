@@ -1,9 +1,9 @@
 // The meaning of a record: an operation and its registers.
 ghost use mathlib.Core.Path.{_≡_};
-ghost use Rattle.immediates.specs.Answers.{expansionAnswer};
+ghost use Rattle.immediates.specs.Answers.{expansionAnswer, floatFoundAnswer};
 ghost use Rattle.machine.specs.Answers.{meaningAnswer};
-ghost use Rattle.machine.specs.Meaning.{countOf, shiftBy, repeated, wholeOf, on, meaningIn, meaningOf};
-ghost use Rattle.machine.specs.declared.forms.Form.the-variants.{Shift, Number};
+ghost use Rattle.machine.specs.Meaning.{countOf, shiftBy, repeated, wholePattern, patternAt, floatPattern, on, meaningIn, meaningOf};
+ghost use Rattle.machine.specs.declared.forms.Form.the-variants.{Shift, Number, Float};
 use crate::forms::Direction;
 use crate::forms::Form;
 use crate::forms::form_of;
@@ -11,7 +11,10 @@ use crate::operations::BitOp;
 use crate::operations::ConstantOp;
 use crate::operations::Operation;
 use fields::VectorBits;
+use immediates::float::FloatFound;
+use immediates::float::float_imm8;
 use immediates::modified::Expansion;
+use immediates::modified::expand_imm;
 use insn::Insn;
 use insn::Operand;
 use insn::Refusal;
@@ -74,7 +77,7 @@ fn on_registers(op: Operation, a: Operand, b: Operand, c: Operand) -> Meaning
 
 // The 64 bits of a whole number.
 fn whole_pattern(o: Operand) -> Expansion
-    ensures { λ r. ⌜ expansionAnswer r ≡ wholeOf o ⌝ }
+    ensures { λ r. ⌜ expansionAnswer r ≡ wholePattern o ⌝ }
 {
     match o {
         Operand::Imm(v) => Expansion::Pattern(immediates::signed::pattern_of(v)),
@@ -82,6 +85,31 @@ fn whole_pattern(o: Operand) -> Expansion
         Operand::Q(_) => Expansion::Refused(Refusal::NoMeaning),
         Operand::S(_) => Expansion::Refused(Refusal::NoMeaning),
         Operand::Float(_) => Expansion::Refused(Refusal::NoMeaning),
+        Operand::Other => Expansion::Refused(Refusal::NoMeaning),
+        Operand::Absent => Expansion::Refused(Refusal::NoMeaning),
+    }
+}
+
+// The pattern of the float of an immediate, if there is one.
+fn found_pattern(found: FloatFound) -> Expansion
+    ensures { λ r. ⌜ expansionAnswer r ≡ patternAt (floatFoundAnswer found) ⌝ }
+{
+    match found {
+        FloatFound::Imm8(b) => expand_imm(0, 15, b),
+        FloatFound::NoImm8 => Expansion::Refused(Refusal::NoMeaning),
+    }
+}
+
+// The single-precision pattern of a float that a pair carries, twice.
+fn float_pattern(o: Operand) -> Expansion
+    ensures { λ r. ⌜ expansionAnswer r ≡ floatPattern o ⌝ }
+{
+    match o {
+        Operand::Float(x) => found_pattern(float_imm8(x)),
+        Operand::D(_) => Expansion::Refused(Refusal::NoMeaning),
+        Operand::Q(_) => Expansion::Refused(Refusal::NoMeaning),
+        Operand::S(_) => Expansion::Refused(Refusal::NoMeaning),
+        Operand::Imm(_) => Expansion::Refused(Refusal::NoMeaning),
         Operand::Other => Expansion::Refused(Refusal::NoMeaning),
         Operand::Absent => Expansion::Refused(Refusal::NoMeaning),
     }
@@ -137,6 +165,17 @@ fn with_number(op: ConstantOp, w: Width, a: Operand, b: Operand) -> Meaning
     }
 }
 
+// The target a set to the float b.
+fn with_float(a: Operand, b: Operand) -> Meaning
+    ensures { λ r. ⌜ meaningAnswer r ≡ meaningIn Float a b b ⌝ }
+{
+    let number = float_pattern(b);
+    match number {
+        Expansion::Pattern(p) => on_registers(Operation::Constant(ConstantOp::Mov, p), a, a, a),
+        Expansion::Refused(f) => Meaning::Refused(f),
+    }
+}
+
 // The meaning of a form with its operands.
 fn meaning_in(form: Form, a: Operand, b: Operand, c: Operand) -> Meaning
     ensures { λ r. ⌜ meaningAnswer r ≡ meaningIn form a b c ⌝ }
@@ -147,7 +186,7 @@ fn meaning_in(form: Form, a: Operand, b: Operand, c: Operand) -> Meaning
         Form::Copy => on_registers(Operation::Bits(BitOp::Mov), a, b, b),
         Form::Shift(way, w) => shifted(way, w, a, b, c),
         Form::Number(op, w) => with_number(op, w, a, b),
-        Form::Float => Meaning::Refused(Refusal::NoMeaning),
+        Form::Float => with_float(a, b),
         Form::Nothing => Meaning::Refused(Refusal::NoMeaning),
     }
 }

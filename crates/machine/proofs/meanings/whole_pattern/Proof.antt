@@ -6,12 +6,12 @@ use mir.Facts.{toZ-ofZ}
 use borrow.Author.Needs.{needs}
 use Rattle.laws.specs.Answer.{accepted}
 use Rattle.immediates.specs.Signed.{patternOf}
-use Rattle.machine.specs.Meaning.{wholeOf}
+use Rattle.machine.specs.Meaning.{wholePattern}
 use Rattle.machine.proofs.meanings.whole_pattern.Statement.{statement}
 use Rattle.machine.proofs.meanings.whole_pattern.Tie as tie
 
 pub whole-pattern-spec : {M : Type 1} → statement M
-unfolding wholeOf
+unfolding wholePattern
 whole-pattern-spec =
     tie.close
     (tie.spec
