@@ -32,7 +32,7 @@ use Rattle.machine.specs.Meaning.{Act, act, registers, acting, on, whole
 use Rattle.machine.specs.Operations.{Sized}
 use Rattle.machine.specs.Step.{Within}
 
-never : {A : Type 0} → _≡_ {A = ℕ} 0 1 → A
+pub never : {A : Type 0} → _≡_ {A = ℕ} 0 1 → A
 never e = absurd (let z : ⊥ = omega arith in z)
 
 pub repeated-lt : (w : Width) (p : ℕ) → repeated w p < 2 ^ 64

@@ -4,3 +4,4 @@ pub mod Forms
 pub mod Meaning
 pub mod Step
 pub mod Answers
+pub mod Promises
