@@ -1,0 +1,20 @@
+-- `machine_test::run_shifts` is safe and ends.
+-- Assumes nothing.
+use Prim.Native.Nat.{_≤_, _-_}
+use borrow.Author.Needs.{needs}
+use Rattle.machine_test.proofs.run_shifts.Statement.{statement}
+use Rattle.machine_test.proofs.run_shifts.Tie as tie
+
+abbrev Inv-loop : tie.InvT-loop
+Inv-loop rows sum₀ k₀ sum k = k ≤ 36
+
+abbrev μ-loop : tie.MeasureT-loop
+μ-loop rows sum₀ k₀ sum k = 36 - k
+
+pub run-shifts-spec : {M : Type 1} → statement M
+run-shifts-spec =
+    tie.close
+    (tie.spec Inv-loop μ-loop (λ c. search needs) (λ c. search needs) (λ c. search needs) (λ c. search needs) (λ c. search needs)
+    (λ c. search needs) (λ c κs. search needs) (λ c. search needs) (λ c κs. search needs) (λ c. search needs) (λ c. search needs)
+    (λ c. search needs) (λ c κs. search needs) (λ c κs. search needs) (λ c. search needs) (λ c. search needs) (λ c. search needs)
+    (λ c. search needs))
