@@ -1,5 +1,6 @@
 pub mod Codes
 pub mod Known
 pub mod Promises
+pub mod Search
 pub mod Spellings
 pub mod Widths

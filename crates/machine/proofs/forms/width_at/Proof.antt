@@ -1,0 +1,19 @@
+-- `machine::forms::width_at` meets its contract.
+-- Assumes nothing.
+use native.Mathlib.Omega.{arith}
+use borrow.Author.Needs.{needs}
+use lib.ListN.{List·getD-eq-default}
+use mathlib.Core.List.{[], _∷_}
+use mathlib.Core.Path.{sym}
+use Rattle.lanes.specs.declared.Width.the-variants.{B8, B16, B32, B64}
+use Rattle.machine.proofs.forms.width_at.Statement.{statement}
+use Rattle.machine.proofs.forms.width_at.Tie as tie
+
+pub width-at-spec : {M : Type 1} → statement M
+width-at-spec =
+    tie.close
+    (tie.spec
+    (λ c. search needs)
+    (λ c. search needs)
+    (λ c. search needs)
+    (λ c. sym (List·getD-eq-default (B8 ∷ B16 ∷ B32 ∷ []) B64 {n = c .before .args .k} (omega (arith, c .match .rest .1, c .match .rest .0 .1, c .match .rest .0 .0 .1)))))

@@ -1,0 +1,106 @@
+-- The meaning of a record: an operation and its registers. The address and the mark do not matter.
+-- A record that is unlike its name's form in count, kinds, register range or D/Q mix has no meaning, which is refusal 10.
+-- Assumes nothing.
+use mathlib.Core.Bool.{Bool, Bool·beq}
+use Prim.Native.Nat.{ℕ, _/_, _%_, _^_}
+use lib.Dec.{eqb, leb}
+use Rattle.laws.specs.Answer.{Answer, accepted, refused, andThen}
+use Rattle.laws.specs.Choice.{choose}
+use Rattle.insn.specs.declared.Insn.{Insn}
+use Rattle.insn.specs.declared.Operand.{Operand}
+use Rattle.insn.specs.declared.Operand.the-variants.{D, Q, S, Imm, Float, Other, Absent}
+use Rattle.tables.specs.Names.{nameOf}
+use Rattle.tables.specs.Search.{Found, at, none}
+use Rattle.fields.specs.Registers.{Bits, bits, vecBits}
+use Rattle.immediates.specs.Floats.{floatBits}
+use Rattle.immediates.specs.Found.{findFloat}
+use Rattle.immediates.specs.Modified.{copies}
+use Rattle.immediates.specs.Signed.{patternOf}
+use Rattle.lanes.specs.Lane.{bitsOf}
+use Rattle.lanes.specs.declared.LaneOp.{LaneOp}
+use Rattle.lanes.specs.declared.LaneOp.the-variants.{Shl, Shr}
+use Rattle.lanes.specs.declared.Width.{Width}
+use Rattle.machine.specs.declared.operations.BitOp.the-variants.{Mov}
+use Rattle.machine.specs.declared.operations.ConstantOp.the-variants.{Mov as Set}
+use Rattle.machine.specs.declared.operations.Operation.{Operation}
+use Rattle.machine.specs.declared.operations.Operation.the-variants.{Lanes, Bits as Bitwise, Constant}
+use Rattle.machine.specs.declared.forms.Direction.{Direction}
+use Rattle.machine.specs.declared.forms.Direction.the-variants.{Left, Right}
+use Rattle.machine.specs.declared.forms.Form.{Form}
+use Rattle.machine.specs.declared.forms.Form.the-variants as form
+use Rattle.machine.specs.declared.meanings.Registers.{Registers}
+use Rattle.machine.specs.Forms.{formOf}
+
+-- an operation on registers
+pub data Act : Type 0 where
+  act : Operation → Registers → Act
+
+abbrev pub registers : Bool → ℕ → ℕ → ℕ → Registers
+registers quad d n m = record { quad = quad; d = d; n = n; m = m }
+
+-- three registers of one size
+unfoldable pub acting : Operation → Answer Bits → Answer Bits → Answer Bits → Answer Act
+acting op (accepted (bits p d)) (accepted (bits q n)) (accepted (bits r m)) =
+    choose (Bool·beq p q) (choose (Bool·beq p r) (accepted (act op (registers p d n m))) (refused 10)) (refused 10)
+acting op (accepted (bits p d)) (accepted (bits q n)) (refused x) = refused 10
+acting op (accepted (bits p d)) (refused x) c = refused 10
+acting op (refused x) b c = refused 10
+
+abbrev pub on : Operation → Operand → Operand → Operand → Answer Act
+on op a b c = acting op (vecBits a) (vecBits b) (vecBits c)
+
+-- the 64 bits of a whole number
+unfoldable pub wholePattern : Operand → Answer ℕ
+wholePattern (Imm v) = accepted (patternOf v)
+wholePattern (D n) = refused 10
+wholePattern (Q n) = refused 10
+wholePattern (S n) = refused 10
+wholePattern (Float x) = refused 10
+wholePattern Other = refused 10
+wholePattern Absent = refused 10
+
+-- the single-precision pattern of a float that a pair carries, twice
+abbrev pub patternAt : Found → Answer ℕ
+patternAt (at b) = accepted (copies 2 32 (floatBits b))
+patternAt none = refused 10
+
+unfoldable pub floatPattern : Operand → Answer ℕ
+floatPattern (Float x) = patternAt (findFloat x)
+floatPattern (D n) = refused 10
+floatPattern (Q n) = refused 10
+floatPattern (S n) = refused 10
+floatPattern (Imm v) = refused 10
+floatPattern Other = refused 10
+floatPattern Absent = refused 10
+
+-- the lowest bits of p, as many as the width has, in every element of 64 bits
+unfoldable pub repeated : Width → ℕ → ℕ
+repeated w p = copies (64 / bitsOf w) (bitsOf w) (p % 2 ^ bitsOf w)
+
+abbrev pub shiftBy : Direction → ℕ → LaneOp
+shiftBy Left k = Shl k
+shiftBy (Right s) k = Shr s k
+
+-- How many operands a form has, and what they are: a is the target, b and c are sources. An amount is at most 64, for every width.
+abbrev pub countOf : Form → ℕ
+countOf (form.Lanes op w) = 3
+countOf (form.Bits op) = 3
+countOf form.Copy = 2
+countOf (form.Shift way w) = 3
+countOf (form.Number op w) = 2
+countOf form.Float = 2
+countOf form.Nothing = 0
+
+unfoldable pub meaningIn : Form → Operand → Operand → Operand → Answer Act
+meaningIn (form.Lanes op w) a b c = on (Lanes op w) a b c
+meaningIn (form.Bits op) a b c = on (Bitwise op) a b c
+meaningIn form.Copy a b c = on (Bitwise Mov) a b b
+meaningIn (form.Shift way w) a b c = andThen (wholePattern c) (λ k. choose (leb k 64) (on (Lanes (shiftBy way k) w) a b b) (refused 10))
+meaningIn (form.Number op w) a b c = andThen (wholePattern b) (λ p. on (Constant op (repeated w p)) a a a)
+meaningIn form.Float a b c = andThen (floatPattern b) (λ p. on (Constant Set p) a a a)
+meaningIn form.Nothing a b c = refused 10
+
+unfoldable pub meaningOf : Insn → Answer Act
+meaningOf i =
+    let f = formOf (nameOf (i .mnemonic)) in
+    choose (eqb (i .count) (countOf f)) (meaningIn f (i .first) (i .second) (i .third)) (refused 10)

@@ -1,0 +1,62 @@
+// The register machine: one instruction on a file of 32 doublewords.
+ghost use mathlib.Core.Path.{_≡_};
+ghost use Rattle.machine.specs.Answers.{steppedAnswer};
+ghost use Rattle.machine.specs.Step.{Within, effect, stepInsn, fileAfter};
+use insn::Insn;
+use insn::Refusal;
+use meanings::Meaning;
+use meanings::Registers;
+use operations::Operation;
+
+pub mod forms;
+pub mod meanings;
+pub mod operations;
+
+// How a step ended.
+pub enum Outcome {
+    Done,
+    Refused(Refusal),
+}
+
+// What a step answers; a refusal leaves the file as it was.
+pub struct Stepped {
+    pub outcome: Outcome,
+    pub file: [u64; 32],
+}
+
+// The file after an operation. The sources are read from the file before it.
+fn perform(file: [u64; 32], op: Operation, r: Registers) -> [u64; 32]
+    requires { ⌜ Within r ⌝ }
+    ensures { λ after. ⌜ after ≡ effect op r file ⌝ }
+{
+    let d = r.d as usize;
+    let n = r.n as usize;
+    let m = r.m as usize;
+    let mut after = file;
+    after[d] = operations::value(op, file[d], file[n], file[m]);
+    if r.quad {
+        after[d + 1] = operations::value(op, file[d + 1], file[n + 1], file[m + 1]);
+    }
+    after
+}
+
+// One instruction on a file.
+pub fn step_insn(file: [u64; 32], i: Insn) -> Stepped
+    ensures answer { λ r. ⌜ steppedAnswer r ≡ stepInsn i file ⌝ }
+    ensures left { λ r. ⌜ r .file ≡ fileAfter (stepInsn i file) file ⌝ }
+{
+    let meaning = meanings::meaning_of(i);
+    match meaning {
+        Meaning::Does(op, r) => {
+            let after = perform(file, op, r);
+            Stepped {
+                outcome: Outcome::Done,
+                file: after,
+            }
+        }
+        Meaning::Refused(f) => Stepped {
+            outcome: Outcome::Refused(f),
+            file,
+        },
+    }
+}
