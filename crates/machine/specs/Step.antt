@@ -6,6 +6,7 @@ use Prim.Native.Nat.{ℕ, _+_, _<_}
 use Rattle.laws.specs.Answer.{Answer, accepted, refused}
 use Rattle.laws.specs.Choice.{choose}
 use Rattle.insn.specs.declared.Insn.{Insn}
+use Rattle.decode.specs.Reading.{reading}
 use Rattle.machine.specs.declared.operations.Operation.{Operation}
 use Rattle.machine.specs.declared.meanings.Registers.{Registers}
 use Rattle.machine.specs.File.{File, readD, writeD}
@@ -35,6 +36,14 @@ stepBy (refused n) file = refused n
 -- the step that a record is
 abbrev pub stepInsn : Insn → File → Answer File
 stepInsn i file = stepBy (meaningOf i) file
+
+unfoldable pub stepRead : Answer Insn → File → Answer File
+stepRead (accepted i) file = stepInsn i file
+stepRead (refused n) file = refused n
+
+-- the step that a pair is: the reading's refusal, else the record's step; the address does not matter
+abbrev pub stepPair : ℕ → ℕ → File → Answer File
+stepPair hw1 hw2 file = stepRead (reading hw1 hw2 0) file
 
 -- a refusal leaves the file as it was
 abbrev pub fileAfter : Answer File → File → File

@@ -1,7 +1,8 @@
 // The register machine: one instruction on a file of 32 doublewords.
 ghost use mathlib.Core.Path.{_≡_};
 ghost use Rattle.machine.specs.Answers.{steppedAnswer};
-ghost use Rattle.machine.specs.Step.{Within, effect, stepInsn, fileAfter};
+ghost use Rattle.machine.specs.Step.{Within, effect, stepInsn, stepPair, fileAfter};
+use decode::Reading;
 use insn::Insn;
 use insn::Refusal;
 use meanings::Meaning;
@@ -55,6 +56,21 @@ pub fn step_insn(file: [u64; 32], i: Insn) -> Stepped
             }
         }
         Meaning::Refused(f) => Stepped {
+            outcome: Outcome::Refused(f),
+            file,
+        },
+    }
+}
+
+// One pair on a file: its refusal in reading, else that of its record.
+pub fn step(file: [u64; 32], hw1: u16, hw2: u16) -> Stepped
+    ensures answer { λ r. ⌜ steppedAnswer r ≡ stepPair hw1 hw2 file ⌝ }
+    ensures left { λ r. ⌜ r .file ≡ fileAfter (stepPair hw1 hw2 file) file ⌝ }
+{
+    let answer = decode::read(hw1, hw2, 0);
+    match answer {
+        Reading::Read(i) => step_insn(file, i),
+        Reading::Refused(f) => Stepped {
             outcome: Outcome::Refused(f),
             file,
         },
