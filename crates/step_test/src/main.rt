@@ -1,11 +1,14 @@
 // Steps the cases on standard input, which tools/emulate made with an ARM emulator, and compares what is left.
 // Each line has 1036 bytes: hw1 hw2, D0 to D31 before, D0 to D31 after, in hexadecimal.
 ghost use Prim.Native.Nat.{_<_};
-ghost use mathlib.Core.Path.{_≡_};
-ghost use lib.ListN.{length};
 use libc::STDIN_FILENO;
 use libc::STDOUT_FILENO;
 use machine::Outcome;
+
+struct Tally {
+    steps: u64,
+    wrong: u64,
+}
 
 fn put(text: &[u8]) {
     io::write_all(STDOUT_FILENO, text);
@@ -26,13 +29,15 @@ fn digit(c: u8) -> u64
     ((c % 16 + 9) % 16) as u64
 }
 
-// The n hexadecimal digits from a place on; what is past the line counts as nothing.
+// The n hexadecimal digits from a place on; past the line there are none.
 fn field(line: &[u8; 1036], at: usize, n: usize) -> u64 {
     let mut value: u64 = 0;
-    for i in 0..n {
-        if at < 1036 && i < 1036 - at {
-            value = value % 0x1000_0000_0000_0000 * 16 + digit(line[at + i]);
+    let mut i: usize = 0;
+    while i < 1036 {
+        if at <= i && i - at < n {
+            value = value % 0x1000_0000_0000_0000 * 16 + digit(line[i]);
         }
+        i += 1;
     }
     value
 }
@@ -40,8 +45,10 @@ fn field(line: &[u8; 1036], at: usize, n: usize) -> u64 {
 // The 32 doublewords from a place on.
 fn file_at(line: &[u8; 1036], at: usize) -> [u64; 32] {
     let mut file = [0u64; 32];
-    for i in 0..32usize {
+    let mut i: usize = 0;
+    while i < 32 {
         file[i] = field(line, at % 1036 + 16 * i, 16);
+        i += 1;
     }
     file
 }
@@ -70,20 +77,26 @@ fn agrees(line: &[u8; 1036]) -> bool {
     }
 }
 
-fn main() {
+// Steps every line: how many there were, and how many left another file.
+fn compared() -> Tally {
     let mut line = [0u8; 1036];
     let mut steps: u64 = 0;
     let mut wrong: u64 = 0;
     while steps < 10000000 {
         let got = io::read_full(STDIN_FILENO, &mut line);
         if got < 1036 {
-            break;
+            return Tally { steps, wrong };
         }
         if !agrees(&line) {
             wrong = wrong % 10000000 + 1;
         }
         steps += 1;
     }
-    put_count(b"steps ", steps);
-    put_count(b"not as the emulator ", wrong);
+    Tally { steps, wrong }
+}
+
+fn main() {
+    let t = compared();
+    put_count(b"steps ", t.steps);
+    put_count(b"not as the emulator ", t.wrong);
 }
