@@ -1,0 +1,76 @@
+-- Two registers and a shift amount: A7.4.4, table A7-12.
+--   hw1  1 1 1 U 1 1 1 1 1 D imm6         hw2  Vd A L B M 1 Vm     B is Q where the row has a Q
+-- Assumes nothing.
+use mathlib.Core.Bool.{Bool, true, false}
+use Prim.Native.Nat.{ℕ, _+_, _*_}
+use Prim.Native.String.{String}
+use lib.Dec.{eqb, ltb}
+use lib.IntN.{pos}
+use lib.ListN.{getD}
+use lib.Text.{eqt}
+use Rattle.laws.specs.Answer.{Answer, accepted, refused}
+use Rattle.laws.specs.Choice.{choose}
+use Rattle.insn.specs.declared.Insn.{Insn}
+use Rattle.insn.specs.declared.Mark.the-variants.{T1}
+use Rattle.insn.specs.declared.Operand.{Operand}
+use Rattle.insn.specs.declared.Operand.the-variants.{Imm}
+use Rattle.tables.specs.Cells.{cellAt}
+use Rattle.tables.specs.Names.{numberOf}
+use Rattle.tables.specs.Shift.{shiftCells, shiftClasses, vmovl}
+use Rattle.tables.specs.declared.ShiftClass.{ShiftClass}
+use Rattle.tables.specs.declared.ShiftClass.the-variants.{Right, Left, Narrow, Long, Convert}
+use Rattle.fields.specs.Halfwords.{bit, field}
+use Rattle.fields.specs.Registers.{dnumOf, vecOf}
+use Rattle.immediates.specs.Shifts.{codeOf, amountOf}
+use Rattle.decode.specs.Operands.{isSet, two, three}
+
+-- narrowing, lengthening and conversion rows have L clear, and a conversion has imm6 from 32 on
+unfoldable pub forbidden : ShiftClass → ℕ → ℕ → Bool
+forbidden Right l imm6 = false
+forbidden Left l imm6 = false
+forbidden Narrow l imm6 = isSet l
+forbidden Long l imm6 = isSet l
+forbidden Convert l imm6 = choose (isSet l) true (ltb imm6 32)
+
+-- the column: the element size, and for a conversion the first
+unfoldable pub columnOf : ShiftClass → ℕ → ℕ → ℕ
+columnOf Right l imm6 = codeOf l imm6
+columnOf Left l imm6 = codeOf l imm6
+columnOf Narrow l imm6 = codeOf l imm6
+columnOf Long l imm6 = codeOf l imm6
+columnOf Convert l imm6 = 0
+
+abbrev pub amount : ℕ → Answer Operand
+amount k = accepted (Imm (pos k))
+
+-- a lengthening; by 0 it has the mnemonic `moved` and no amount
+unfoldable pub longOf : ℕ → ℕ → ℕ → ℕ → ℕ → ℕ → Answer Insn
+longOf mnemonic moved k d m address =
+    choose (eqb k 0) (two moved T1 address (vecOf true d) (vecOf false m))
+    (three mnemonic T1 address (vecOf true d) (vecOf false m) (amount k))
+
+-- the operands of a mnemonic by its row's class: d and m are D:Vd and M:Vm
+unfoldable pub shifted : ShiftClass → ℕ → ℕ → Bool → ℕ → ℕ → ℕ → ℕ → Answer Insn
+shifted Right mnemonic moved quad k d m address = three mnemonic T1 address (vecOf quad d) (vecOf quad m) (amount k)
+shifted Left mnemonic moved quad k d m address = three mnemonic T1 address (vecOf quad d) (vecOf quad m) (amount k)
+shifted Narrow mnemonic moved quad k d m address = three mnemonic T1 address (vecOf false d) (vecOf true m) (amount k)
+shifted Long mnemonic moved quad k d m address = longOf mnemonic moved k d m address
+shifted Convert mnemonic moved quad k d m address = three mnemonic T1 address (vecOf quad d) (vecOf quad m) (amount k)
+
+-- the reading in the row U:A:B of a class
+unfoldable pub shiftOf : ShiftClass → ℕ → ℕ → Bool → ℕ → ℕ → ℕ → ℕ → ℕ → Answer Insn
+shiftOf class u row quad l imm6 d m address =
+    choose (forbidden class l imm6) (refused 2)
+    (choose (eqt (cellAt shiftCells row (columnOf class l imm6)) "") (refused 3)
+    (shifted class (numberOf (cellAt shiftCells row (columnOf class l imm6))) (numberOf (cellAt vmovl u (columnOf class l imm6))) quad
+    (amountOf class l imm6) d m address))
+
+abbrev pub shiftRow : ℕ → ℕ → ℕ
+shiftRow hw1 hw2 = bit 12 hw1 * 32 + field 11 8 hw2 * 2 + bit 6 hw2
+
+unfoldable pub shiftReading : ℕ → ℕ → ℕ → Answer Insn
+shiftReading hw1 hw2 address =
+    shiftOf (getD shiftClasses (shiftRow hw1 hw2) Right) (bit 12 hw1) (shiftRow hw1 hw2) (isSet (bit 6 hw2)) (bit 7 hw2) (field 5 0 hw1)
+    (dnumOf (bit 6 hw1) (field 15 12 hw2))
+    (dnumOf (bit 5 hw2) (field 3 0 hw2))
+    address
