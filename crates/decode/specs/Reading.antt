@@ -24,7 +24,7 @@ isDataProcessing hw1 = both (eqb (field 15 13 hw1) 7) (eqb (field 11 8 hw1) 15)
 unfoldable pub familyOf : ℕ → ℕ → Family
 familyOf hw1 hw2 =
     choose (not (isDataProcessing hw1)) NoFamily
-    (choose (not (isSet (bit 7 hw1))) ThreeSame
+    (choose (eqb (bit 7 hw1) 0) ThreeSame
     (choose (isSet (bit 4 hw2)) (choose (isEscape (bit 7 hw2) (field 5 0 hw1)) ModifiedImmediate Shift)
     (choose (isSet (bit 6 hw2)) NoFamily
     (choose (eqb (field 5 4 hw1) 3) NoFamily ThreeDifferent))))
