@@ -1,5 +1,7 @@
 pub mod Exact
 pub mod Expansions
+pub mod Found
 pub mod Promises
+pub mod Same
 pub mod Shifts
 pub mod Signs

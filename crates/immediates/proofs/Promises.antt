@@ -1,6 +1,6 @@
 -- The promises of specs/Promises.antt.
 -- Assumes nothing.
-use mathlib.Core.Path.{_≡_, refl, ap}
+use mathlib.Core.Path.{_≡_, refl, sym, ap, _∙_}
 use mathlib.Core.Bool.{Bool, true, false}
 use Prim.Native.Nat.{ℕ, _-_, _/_, _%_, _^_, _<_}
 use native.Mathlib.Nat.{mul-one}
@@ -17,7 +17,8 @@ use Rattle.tables.specs.declared.ShiftClass.the-variants.{Right, Left, Convert}
 use Rattle.immediates.specs.Signed.{signedOf, patternOf}
 use Rattle.immediates.specs.Floats.{kOf, floatOf, floatBits}
 use Rattle.immediates.specs.Shifts.{isEscape, codeOf, bitsOf, rightEnd, leftStart, amountOf}
-use Rattle.immediates.specs.Promises.{FloatValue, FloatPattern, PatternBack, SignedBack, RightAmounts, LeftAmounts, ConvertAmounts}
+use Rattle.immediates.specs.Promises.{FloatValue, FloatPattern, FloatOnce, FloatBack, PatternBack, SignedBack, RightAmounts, LeftAmounts, ConvertAmounts}
+use Rattle.immediates.proofs.Found.{its-bits, back-found}
 use Rattle.immediates.proofs.Signs.{signed-low, signed-high}
 
 pub floatValue : FloatValue
@@ -27,6 +28,12 @@ floatValue b = rw mul-one at (odd-sign 12 (leb 128 b) (kOf b) 0 7)
 pub floatPattern : FloatPattern
 unfolding values ofBits floatOf
 floatPattern = agree (λ (b : ℕ). ofBits binary32 (floatBits b)) floatOf 256 refl
+
+pub floatOnce : FloatOnce
+floatOnce x a b ha hb f ea eb = its-bits x f a ha ea ∙ sym (its-bits x f b hb eb)
+
+pub floatBack : FloatBack
+floatBack = back-found
 
 pub patternBack : PatternBack
 unfolding patternOf

@@ -2,5 +2,6 @@ pub mod Shifts
 pub mod Signed
 pub mod Modified
 pub mod Floats
+pub mod Found
 pub mod Answers
 pub mod Promises

@@ -1,4 +1,5 @@
 pub mod Codes
 pub mod Promises
+pub mod Search
 pub mod Spellings
 pub mod Widths

@@ -1,4 +1,5 @@
 pub mod Cells
+pub mod Search
 pub mod Same3
 pub mod Shift
 pub mod Modimm
