@@ -1,5 +1,6 @@
 // The manual's tables as numbers: each cell holds its mnemonic's number, and a blank cell `BLANK`.
 pub mod diff;
+pub mod home;
 pub mod modimm;
 pub mod names;
 pub mod same3;
