@@ -1,0 +1,3 @@
+pub mod Amounts
+pub mod Pairs
+pub mod Tests
