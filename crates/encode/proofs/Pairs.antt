@@ -11,6 +11,7 @@ use Rattle.encode.specs.Forms.{pair, asBit}
 use Rattle.encode.specs.Same3.{same3Pair}
 use Rattle.encode.specs.Diff.{diffPair}
 use Rattle.encode.specs.Shift.{shiftPair, bitB}
+use Rattle.encode.specs.Modimm.{modimmPair}
 
 size-low : (k n : ℕ) → (k % 4 * 16 + n % 16) % 64 ≡ field 1 0 k * 16 + field 3 0 n
 size-low k n = omega arith
@@ -46,3 +47,9 @@ pub shift-packed : (class : ShiftClass) (k : ℕ) (quad : Bool) (t d m : ℕ)
     ≡ shiftPair k (bitB class quad k) t d m
 unfolding shiftPair
 shift-packed class k quad t d m = let six : t % 64 ≡ field 5 0 t = omega arith in rw (six, low d, low m, b-bit class quad k)
+
+pub modimm-packed : (t : ℕ) (quad : Bool) (d : ℕ)
+    → pair (first (t / 128 % 2) 1 (d / 16 % 2) (t / 16 % 8 % 64)) (second (d % 16) (t / 256 % 16) 0 (asBit quad % 2) (t / 4096 % 2) 1 (t % 16))
+    ≡ modimmPair t quad d
+unfolding modimmPair
+modimm-packed t quad d = let three : t / 16 % 8 % 64 ≡ t / 16 % 8 = omega arith in rw (three, low d, low t, one-bit quad)

@@ -8,7 +8,7 @@ use native.Mathlib.Omega.{arith}
 use lib.Dec.{T, eqb}
 use lib.IntN.{ℤ, pos, negsuc}
 use lib.Text.{eqt, eqt→eq}
-use borrow.Author.Tests.{eqb-true}
+use borrow.Author.Tests.{eqb-true, eq-eqb}
 use Rattle.decode.specs.Operands.{both}
 use Rattle.encode.specs.Forms.{sameNumber}
 
@@ -34,3 +34,17 @@ same-number (pos m) (pos n) e = ap pos (eqb-true m n e)
 same-number (pos m) (negsuc n) e = wrong e
 same-number (negsuc m) (pos n) e = wrong e
 same-number (negsuc m) (negsuc n) e = ap negsuc (eqb-true m n e)
+
+pub number-same : (v w : ℤ) → v ≡ w → sameNumber v w ≡ true
+number-same v w e = rw (← e) (self v)
+  where
+    self : (v : ℤ) → sameNumber v v ≡ true
+    self (pos m) = eq-eqb m m refl
+    self (negsuc m) = eq-eqb m m refl
+
+pub number-other : (v w : ℤ) → (v ≡ w → ⊥) → sameNumber v w ≡ false
+number-other v w n = go (sameNumber v w) refl
+  where
+    go : (b : Bool) → sameNumber v w ≡ b → b ≡ false
+    go true e = absurd (n (same-number v w e))
+    go false e = refl

@@ -1,7 +1,8 @@
 -- Writing one register and a modified immediate: A7.4.6, tables A7-14 and A7-15.
 -- Assumes nothing.
-use mathlib.Core.Bool.{Bool, false, not}
-use Prim.Native.Nat.{ℕ}
+use mathlib.Core.Bool.{Bool, true, false, not}
+use mathlib.Core.Path.{_≡_}
+use Prim.Native.Nat.{ℕ, _<_}
 use Prim.Native.String.{String}
 use lib.Dec.{eqb}
 use lib.Ieee.{eq}
@@ -58,6 +59,10 @@ readsAs name value op cmode imm8 =
 -- the value as op:cmode:imm8
 abbrev pub immediateOf : String → Operand → Answer ℕ
 immediateOf name value = orNine (firstBelow 8192 (λ (t : ℕ). readsAs name value (bit 12 t) (field 11 8 t) (field 7 0 t)))
+
+-- no place but t is read so
+abbrev pub OnlyPlace : String → Operand → ℕ → Type 0
+OnlyPlace name value t = (u : ℕ) → u < 8192 → readsAs name value (bit 12 u) (field 11 8 u) (field 7 0 u) ≡ true → u ≡ t
 
 -- VMOV.F32 takes a float, and any other name a number
 unfoldable pub immediateIn : String → Operand → Answer ℕ

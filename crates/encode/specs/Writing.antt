@@ -21,7 +21,7 @@ abbrev pub inHome : Home → String → ℕ → Operand → Operand → Operand 
 inHome (Same3 cell) name count a b c = same3Writing cell name count a b c
 inHome (Shift cell) name count a b c = shiftWriting cell count a b c
 inHome (Vmovl cell) name count a b c = vmovlWriting cell count a b
-inHome Modimm name count a b c = modimmWriting name count a b
+inHome (Modimm cell) name count a b c = modimmWriting name count a b
 inHome (Diff cell) name count a b c = diffWriting cell count a b c
 inHome Vmov name count a b c = vmovWriting count a b
 inHome Nowhere name count a b c = refused 7

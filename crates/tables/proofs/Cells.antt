@@ -2,7 +2,7 @@
 -- Assumes nothing.
 use mathlib.Core.Path.{_≡_, refl, sym, ap, _∙_, subst}
 use mathlib.Core.Bool.{Bool, true, false}
-use mathlib.Core.List.{List}
+use mathlib.Core.List.{List, [], _∷_}
 use Prim.Native.Nat.{ℕ, _+_, _*_, _/_, _%_, _<_, _≤_}
 use Prim.Native.String.{String}
 use native.Mathlib.Omega.{arith}
@@ -24,10 +24,15 @@ use Rattle.tables.specs.declared.ShiftClass.the-variants.{Right, Left, N
 use Rattle.tables.specs.declared.home.Home.{Home}
 use Rattle.tables.specs.declared.home.Home.the-variants.{Same3, Shift, Vmovl, Modimm, Diff, Vmov, Nowhere}
 use Rattle.tables.proofs.Homes.{homeAt, no-home}
+use Rattle.tables.proofs.Search.{never}
 
 -- the cell at a place of a table of four columns
 abbrev pub cell4 : List (List String) → ℕ → String
 cell4 table k = cellAt table (k / 4) (k % 4)
+
+-- and of one of sixteen
+abbrev pub cell16 : List (List String) → ℕ → String
+cell16 table k = cellAt table (k / 16) (k % 16)
 
 abbrev and : Bool → Bool → Bool
 and a b = choose a b false
@@ -37,7 +42,7 @@ abbrev right : Home → String → Bool
 right (Same3 k) s = and (ltb k 256) (eqt (cell4 same3 k) s)
 right (Shift k) s = and (ltb k 256) (eqt (cell4 shiftCells k) s)
 right (Vmovl k) s = and (ltb k 8) (eqt (cell4 vmovl k) s)
-right Modimm s = true
+right (Modimm k) s = and (ltb k 32) (eqt (cell16 modimm k) s)
 right (Diff k) s = and (ltb k 128) (eqt (cell4 diffCells k) s)
 right Vmov s = eqt s "vmov"
 right Nowhere s = eqt s ""
@@ -60,64 +65,42 @@ text : (s t : String) → eqt s t ≡ true → s ≡ t
 text s t e = eqt→eq s t (subst T (sym e) tt)
 
 -- a mnemonic at home in a table: its number, its place and its name
-pub record Stands (m k limit : ℕ) (table : List (List String)) : Type 0 where
+pub record Stands (m k limit : ℕ) (cell : ℕ → String) : Type 0 where
   pub known : m < 346
   pub within : k < limit
-  pub spelled : cell4 table k ≡ nameOf m
+  pub spelled : cell k ≡ nameOf m
 
 module _ (number : Bool) (m : ℕ) where
-  -- a mnemonic with a home has a number below 346
-  pub known : (h : Home) → homeAt number m ≡ h → (Nowhere ≡ h → ⊥) → m < 346
-  known h e n = go (ltb m 346) refl
+  -- a mnemonic with a home has a number below 346, and the home is right
+  at-home : (h : Home) → homeAt number m ≡ h → (Nowhere ≡ h → _≡_ {A = ℕ} 0 1) → (m < 346) × (right h (nameOf m) ≡ true)
+  at-home h e n = go (ltb m 346) refl
     where
-      go : (b : Bool) → ltb m 346 ≡ b → m < 346
-      go true t = ltb-true m 346 t
-      go false t = absurd (n (no-home number m (ltb-false m 346 t) ∙ e))
+      go : (b : Bool) → ltb m 346 ≡ b → (m < 346) × (right h (nameOf m) ≡ true)
+      go true t = let l = ltb-true m 346 t in (l, rw e at (right-named number m l))
+      go false t = never (n (no-home number m (ltb-false m 346 t) ∙ e))
 
-  stands : (k limit : ℕ) (table : List (List String)) → m < 346 → and (ltb k limit) (eqt (cell4 table k) (nameOf m)) ≡ true → Stands m k limit table
-  stands k limit table l e =
-      let w = and-true (ltb k limit) _ e in
-      record { known = l; within = ltb-true k limit (w .0); spelled = text _ _ (w .1) }
+  stands : (k limit : ℕ) (cell : ℕ → String) → (m < 346) × (and (ltb k limit) (eqt (cell k) (nameOf m)) ≡ true) → Stands m k limit cell
+  stands k limit cell h =
+      let w = and-true (ltb k limit) _ (h .1) in
+      record { known = h .0; within = ltb-true k limit (w .0); spelled = text _ _ (w .1) }
 
-  pub same3-stands : (k : ℕ) → homeAt number m ≡ Same3 k → Stands m k 256 same3
-  same3-stands k e =
-      let l = known (Same3 k) e (λ n. apart n) in
-      stands k 256 same3 l (rw e at (right-named number m l))
-    where
-      apart : Nowhere ≡ Same3 k → ⊥
-      apart n = let z : _≡_ {A = ℕ} 0 1 = cc in omega arith
+  pub same3-stands : (k : ℕ) → homeAt number m ≡ Same3 k → Stands m k 256 (cell4 same3)
+  same3-stands k e = stands k 256 (cell4 same3) (at-home (Same3 k) e (λ n. cc))
 
-  pub shift-stands : (k : ℕ) → homeAt number m ≡ Shift k → Stands m k 256 shiftCells
-  shift-stands k e =
-      let l = known (Shift k) e (λ n. apart n) in
-      stands k 256 shiftCells l (rw e at (right-named number m l))
-    where
-      apart : Nowhere ≡ Shift k → ⊥
-      apart n = let z : _≡_ {A = ℕ} 0 1 = cc in omega arith
+  pub shift-stands : (k : ℕ) → homeAt number m ≡ Shift k → Stands m k 256 (cell4 shiftCells)
+  shift-stands k e = stands k 256 (cell4 shiftCells) (at-home (Shift k) e (λ n. cc))
 
-  pub vmovl-stands : (k : ℕ) → homeAt number m ≡ Vmovl k → Stands m k 8 vmovl
-  vmovl-stands k e =
-      let l = known (Vmovl k) e (λ n. apart n) in
-      stands k 8 vmovl l (rw e at (right-named number m l))
-    where
-      apart : Nowhere ≡ Vmovl k → ⊥
-      apart n = let z : _≡_ {A = ℕ} 0 1 = cc in omega arith
+  pub vmovl-stands : (k : ℕ) → homeAt number m ≡ Vmovl k → Stands m k 8 (cell4 vmovl)
+  vmovl-stands k e = stands k 8 (cell4 vmovl) (at-home (Vmovl k) e (λ n. cc))
 
-  pub diff-stands : (k : ℕ) → homeAt number m ≡ Diff k → Stands m k 128 diffCells
-  diff-stands k e =
-      let l = known (Diff k) e (λ n. apart n) in
-      stands k 128 diffCells l (rw e at (right-named number m l))
-    where
-      apart : Nowhere ≡ Diff k → ⊥
-      apart n = let z : _≡_ {A = ℕ} 0 1 = cc in omega arith
+  pub modimm-stands : (k : ℕ) → homeAt number m ≡ Modimm k → Stands m k 32 (cell16 modimm)
+  modimm-stands k e = stands k 32 (cell16 modimm) (at-home (Modimm k) e (λ n. cc))
+
+  pub diff-stands : (k : ℕ) → homeAt number m ≡ Diff k → Stands m k 128 (cell4 diffCells)
+  diff-stands k e = stands k 128 (cell4 diffCells) (at-home (Diff k) e (λ n. cc))
 
   pub vmov-stands : homeAt number m ≡ Vmov → (m < 346) × (nameOf m ≡ "vmov")
-  vmov-stands e =
-      let l = known Vmov e (λ n. apart n) in
-      (l, text _ _ (rw e at (right-named number m l)))
-    where
-      apart : Nowhere ≡ Vmov → ⊥
-      apart n = let z : _≡_ {A = ℕ} 0 1 = cc in omega arith
+  vmov-stands e = let h = at-home Vmov e (λ n. cc) in (h .0, text _ _ (h .1))
 
 -- the home of a cell's name, where the cell is not blank
 pub same3-home : (k : ℕ) → k < 256 → eqt (cell4 same3 k) "" ≡ false → homeAt false (numberOf (cell4 same3 k)) ≡ Same3 k
@@ -135,10 +118,17 @@ unfolding values same3 shiftRows shiftCells vmovl modimm diffRows diffCells flat
 vmovl-home k h e =
     rw e at (agree (λ (k : ℕ). choose (eqt (cell4 vmovl k) "") (Vmovl k) (homeAt false (numberOf (cell4 vmovl k)))) Vmovl 8 refl k h)
 
-pub modimm-home : (k : ℕ) → k < 32 → eqt (cellAt modimm (k / 16) (k % 16)) "" ≡ false → homeAt false (numberOf (cellAt modimm (k / 16) (k % 16))) ≡ Modimm
+-- the first row of A7-14 with the name of row k: op:cmode
+abbrev pub firstRow : ℕ → ℕ
+firstRow k = getD (0 ∷ 1 ∷ 0 ∷ 1 ∷ 0 ∷ 1 ∷ 0 ∷ 1 ∷ 8 ∷ 9 ∷ 8 ∷ 9 ∷ 0 ∷ 0 ∷ 14 ∷ 15 ∷ []) (k % 16) 0 + k / 16 * 16
+
+abbrev modimmHome : Bool → ℕ → Home
+modimmHome number k = choose (eqt (cell16 modimm k) "") (Modimm (firstRow k)) (homeAt number (numberOf (cell16 modimm k)))
+
+pub modimm-home : (number : Bool) (k : ℕ) → k < 32 → eqt (cell16 modimm k) "" ≡ false → homeAt number (numberOf (cell16 modimm k)) ≡ Modimm (firstRow k)
 unfolding values same3 shiftRows shiftCells vmovl modimm diffRows diffCells flat names nameOf numberOf placeIn otherHome homeOf
-modimm-home k h e =
-    rw e at (agree (λ (k : ℕ). choose (eqt (cellAt modimm (k / 16) (k % 16)) "") Modimm (homeAt false (numberOf (cellAt modimm (k / 16) (k % 16))))) (λ (k : ℕ). Modimm) 32 refl k h)
+modimm-home true k h e = rw e at (agree (modimmHome true) (λ (k : ℕ). Modimm (firstRow k)) 32 refl k h)
+modimm-home false k h e = rw e at (agree (modimmHome false) (λ (k : ℕ). Modimm (firstRow k)) 32 refl k h)
 
 pub vmov-home : homeAt false (numberOf "vmov") ≡ Vmov
 unfolding same3 shiftRows shiftCells vmovl modimm diffRows diffCells flat names nameOf numberOf placeIn otherHome homeOf

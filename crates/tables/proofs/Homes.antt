@@ -54,10 +54,6 @@ pub vmovl-homes : (m : ℕ) → 255 ≤ m → m < 261 → Vmovl ((m - 255) / 3 *
 unfolding values same3 shiftRows shiftCells vmovl modimm diffRows diffCells flat names nameOf placeIn otherHome homeOf
 vmovl-homes = agree-from (λ (m : ℕ). Vmovl ((m - 255) / 3 * 4 + (m - 255) % 3)) (homeAt false) 255 6 refl
 
-pub modimm-homes : (m : ℕ) → 261 ≤ m → m < 272 → Modimm ≡ homeAt false m
-unfolding values same3 shiftRows shiftCells vmovl modimm diffRows diffCells flat names nameOf placeIn otherHome homeOf
-modimm-homes = agree-from (λ (m : ℕ). Modimm) (homeAt false) 261 11 refl
-
 pub vmov-home : (m : ℕ) → m ≡ 345 → Vmov ≡ homeAt false m
 unfolding same3 shiftRows shiftCells vmovl modimm diffRows diffCells flat names nameOf placeIn otherHome homeOf
 vmov-home m e = rw e
@@ -71,7 +67,7 @@ abbrev cell : Home → ℕ
 cell (Same3 k) = k
 cell (Shift k) = k
 cell (Vmovl k) = k
-cell Modimm = 0
+cell (Modimm k) = k
 cell (Diff k) = k
 cell Vmov = 0
 cell Nowhere = 0
@@ -92,6 +88,12 @@ unfolding values same3 shiftRows shiftCells vmovl modimm diffRows diffCells flat
 shift-homes m lo hi =
     ap Shift (listed (cellBelow 255) 173 11 m lo (omega arith))
     ∙ agree-from (λ (m : ℕ). Shift (cellBelow 255 m)) (homeAt false) 173 82 refl m lo hi
+
+pub modimm-homes : (m : ℕ) → 261 ≤ m → m < 272 → Modimm (getD (getD (rows (cellBelow 272) 261 2) ((m - 261) / 8) []) ((m - 261) % 8) 0) ≡ homeAt false m
+unfolding values same3 shiftRows shiftCells vmovl modimm diffRows diffCells flat names nameOf placeIn otherHome homeOf
+modimm-homes m lo hi =
+    ap Modimm (listed (cellBelow 272) 261 2 m lo (omega arith))
+    ∙ agree-from (λ (m : ℕ). Modimm (cellBelow 272 m)) (homeAt false) 261 11 refl m lo hi
 
 pub diff-homes : (m : ℕ) → 272 ≤ m → m < 345 → Diff (getD (getD (rows (cellBelow 345) 272 10) ((m - 272) / 8) []) ((m - 272) % 8) 0) ≡ homeAt false m
 unfolding values same3 shiftRows shiftCells vmovl modimm diffRows diffCells flat names nameOf placeIn otherHome homeOf

@@ -11,7 +11,7 @@ use Rattle.tables.specs.Same3.{same3}
 use Rattle.tables.specs.Shift.{shiftCells, vmovl}
 use Rattle.tables.specs.Modimm.{modimm}
 use Rattle.tables.specs.Diff.{diffCells}
-use Rattle.tables.specs.Names.{flat, member}
+use Rattle.tables.specs.Names.{flat}
 use Rattle.tables.specs.declared.home.Home.{Home}
 use Rattle.tables.specs.declared.home.Home.the-variants.{Same3, Shift, Vmovl, Modimm, Diff, Vmov, Nowhere}
 
@@ -20,7 +20,7 @@ abbrev pub cellFrom : String → ℕ → List String → Found
 cellFrom name n [] = none
 cellFrom name n (x ∷ xs) = let rest = cellFrom name (suc n) xs in choose (eqt x name) (at n) rest
 
--- the place of a name in a table, row by row: in a table of four columns place k is the cell of row k / 4 and column k % 4
+-- the place of a name in a table, row by row: in one of four columns, place k is the cell of row k / 4 and column k % 4
 unfoldable pub placeIn : List (List String) → String → Found
 placeIn table name = cellFrom name 0 (flat table)
 
@@ -33,7 +33,7 @@ unfoldable pub otherHome : String → Home
 otherHome name =
     let other = choose (eqt name "vmov") Vmov Nowhere in
     let different = orElse (placeIn diffCells name) Diff other in
-    let immediate = choose (member name (flat modimm)) Modimm different in
+    let immediate = orElse (placeIn modimm name) Modimm different in
     orElse (placeIn vmovl name) Vmovl immediate
 
 -- the names of VQSHL stand in A7-9 and in A7-12: whether the third operand is a number decides

@@ -10,7 +10,7 @@ pub enum Home {
     Same3(u8), // table A7-9, the cell U:opc:B:size
     Shift(u8), // table A7-12, the cell U:A:B:size
     Vmovl(u8), // the names of VSHLL by 0, the cell U:size
-    Modimm, // table A7-14
+    Modimm(u8), // table A7-14, the cell op:cmode
     Diff(u8), // table A7-10, the cell U:A:size
     Vmov,
     Nowhere,
@@ -55,6 +55,12 @@ const SHIFT_PLACES: [[u8; 8]; 11] = [
     [179, 192, 193, 194, 196, 197, 198, 200], // 237
     [201, 202, 204, 205, 206, 208, 209, 210], // 245
     [240, 248, 0, 0, 0, 0, 0, 0], // 253
+];
+
+// The cells of the mnemonics from 261 on.
+const MODIMM_PLACES: [[u8; 8]; 2] = [
+    [0, 1, 8, 9, 14, 15, 16, 17], // 261
+    [24, 25, 30, 0, 0, 0, 0, 0], // 269
 ];
 
 // The cells of the mnemonics from 272 on.
@@ -120,7 +126,9 @@ pub fn home_of(m: u16, number: bool) -> Home
         return Home::Vmovl(((m - 255) / 3 * 4 + (m - 255) % 3) as u8);
     }
     if m < 272 {
-        return Home::Modimm;
+        let row = ((m - 261) / 8) as usize;
+        let column = ((m - 261) % 8) as usize;
+        return Home::Modimm(MODIMM_PLACES[row][column]);
     }
     if m < 345 {
         let row = ((m - 272) / 8) as usize;

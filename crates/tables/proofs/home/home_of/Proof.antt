@@ -31,9 +31,10 @@ returns-4 c =
     either (a .args .number) (a .args .m) _ (omega arith) (omega arith) (vmovl-homes (a .args .m) (c .before .if3 .left) (c .if4 .taken))
 
 returns-5 : tie.Need-returns-5
+unfolding values same3 shiftRows shiftCells vmovl modimm diffRows diffCells flat names nameOf placeIn otherHome homeOf
 returns-5 c =
-    let a = c .before .before .before .before in
-    either (a .args .number) (a .args .m) _ (omega arith) (omega arith) (modimm-homes (a .args .m) (c .before .if4 .left) (c .if5 .taken))
+    let a = c .before .before .before .before .before in
+    either (a .args .number) (a .args .m) _ (omega arith) (omega arith) (modimm-homes (a .args .m) (c .before .before .if4 .left) (c .before .if5 .taken))
 
 returns-6 : tie.Need-returns-6
 unfolding values same3 shiftRows shiftCells vmovl modimm diffRows diffCells flat names nameOf placeIn otherHome homeOf
@@ -52,6 +53,7 @@ returns-8 c = let a = c .before .before .before .before .before .before in no-ho
 pub home-of-spec : {M : Type 1} → statement M
 home-of-spec =
     tie.close
-    (tie.spec (λ c κs. search needs) returns (λ c κs. search needs) returns-2 (λ c. search needs) (λ c. search needs) (λ c. search needs)
-    (λ c. search needs) (λ c. search needs) returns-3 (λ c. search needs) (λ c. search needs) (λ c. search needs) returns-4 returns-5
+    (tie.spec (λ c κs. search needs) returns (λ c κs. search needs) returns-2 (λ c. search needs) (λ c. search needs)
+    (λ c. search needs) (λ c. search needs) (λ c. search needs) returns-3 (λ c. search needs) (λ c. search needs) (λ c. search needs)
+    returns-4 (λ c. search needs) (λ c. search needs) (λ c. search needs) (λ c. search needs) (λ c. search needs) returns-5
     (λ c. search needs) (λ c. search needs) (λ c. search needs) (λ c. search needs) (λ c. search needs) returns-6 returns-7 returns-8)
