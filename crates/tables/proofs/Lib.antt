@@ -1,5 +1,8 @@
+pub mod Cells
 pub mod Codes
+pub mod Homes
 pub mod Known
+pub mod Listed
 pub mod Promises
 pub mod Search
 pub mod Spellings

@@ -5,7 +5,8 @@ use mathlib.Core.Bool.{Bool, true, false}
 use mathlib.Core.Logic.{_≢_}
 use Prim.Native.Nat.{ℕ, zero, suc, _+_, _<_, _≤_}
 use native.Mathlib.Omega.{arith}
-use lib.Dec.{T}
+use lib.Dec.{T, eqb}
+use borrow.Author.Tests.{eqb-true, eqb-false}
 use Rattle.laws.specs.Choice.{choose}
 use Rattle.tables.specs.Search.{Found, at, none, firstFrom, firstBelow}
 
@@ -46,6 +47,23 @@ none-from p m no-one i (suc n) h = rw (no-one i (omega arith)) (none-from p m no
 -- where none passes, none is found
 pub nothing : (p : ℕ → Bool) (n : ℕ) → ((u : ℕ) → u < n → p u ≡ false) → firstBelow n p ≡ none
 nothing p n no-one = none-from p n no-one 0 n (omega arith)
+
+-- where none is found, none passes
+none-here : (p : ℕ → Bool) (i n u : ℕ) → firstFrom p i n ≡ none → i ≤ u → u < i + n → p u ≡ false
+unfolding firstFrom
+none-here p i zero u e lo hi = absurd (let z : ⊥ = omega arith in z)
+none-here p i (suc n) u e lo hi = go (p i) refl e (λ f l. none-here p (suc i) n u f l (omega arith))
+  where
+    go : (b : Bool) → p i ≡ b → choose b (at i) (firstFrom p (suc i) n) ≡ none → (firstFrom p (suc i) n ≡ none → suc i ≤ u → p u ≡ false) → p u ≡ false
+    go true y f r = never (cc)
+    go false y f r = place (eqb i u) refl
+      where
+        place : (b : Bool) → eqb i u ≡ b → p u ≡ false
+        place true t = sym (ap p (eqb-true i u t)) ∙ y
+        place false t = let ne = eqb-false i u t in r f (omega arith)
+
+pub all-fail : (p : ℕ → Bool) (n : ℕ) → firstBelow n p ≡ none → (u : ℕ) → u < n → p u ≡ false
+all-fail p n e u h = none-here p 0 n u e (omega arith) (omega arith)
 
 -- compute the one number that could pass, and test it alone
 pub candidate : (p : ℕ → Bool) (n g : ℕ) → g < n → ((u : ℕ) → u < n → p u ≡ true → u ≡ g) → firstBelow n p ≡ choose (p g) (at g) none

@@ -5,4 +5,5 @@ pub mod Shift
 pub mod Modimm
 pub mod Diff
 pub mod Names
+pub mod Home
 pub mod Promises

@@ -4,6 +4,7 @@ ghost use lib.Dec.{eqb};
 ghost use Rattle.laws.specs.Choice.{choose};
 
 pub mod diff;
+pub mod home;
 pub mod modimm;
 pub mod names;
 pub mod same3;

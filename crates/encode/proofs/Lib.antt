@@ -1,0 +1,4 @@
+pub mod Amounts
+pub mod Immediates
+pub mod Pairs
+pub mod Tests

@@ -1,0 +1,17 @@
+-- `encode::modimm::modimm_pair` meets its contract.
+-- Assumes nothing.
+use mathlib.Core.Path.{ap}
+use Rattle.laws.specs.Answer.{accepted}
+use borrow.Author.Needs.{needs}
+use Rattle.encode.proofs.Pairs.{modimm-packed}
+use Rattle.encode.proofs.modimm.modimm_pair.Statement.{statement}
+use Rattle.encode.proofs.modimm.modimm_pair.Tie as tie
+
+returns : tie.Need-returns
+returns c =
+    let a = c .before .before .before .args in
+    rw (c .before .before .first-halfword .ensures, c .second-halfword .ensures, c .before .as-bit .ensures)
+    (ap accepted (modimm-packed (a .t) (a .quad) (a .d)))
+
+pub modimm-pair-spec : {M : Type 1} → statement M
+modimm-pair-spec = tie.close (tie.spec (λ c κs. search needs) (λ c κs. search needs) (λ c κs. search needs) returns)

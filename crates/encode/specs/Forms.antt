@@ -1,0 +1,69 @@
+-- What the places of a record hold, as a mnemonic's form asks.
+-- Assumes nothing.
+use mathlib.Core.Bool.{Bool, true, false, not}
+use Prim.Native.Nat.{ℕ}
+use lib.Dec.{eqb}
+use lib.Ieee.{Float, eq}
+use lib.IntN.{ℤ, pos, negsuc}
+use Rattle.laws.specs.Answer.{Answer, accepted, refused}
+use Rattle.laws.specs.Choice.{choose}
+use Rattle.insn.specs.declared.Operand.{Operand}
+use Rattle.insn.specs.declared.Operand.the-variants.{D, Q, S, Imm, Float as Real, Other, Absent}
+use Rattle.tables.specs.Search.{Found, at, none}
+use Rattle.fields.specs.Registers.{Bits, bits, vecBits}
+
+-- a pair: hw1, then hw2
+pub data Pair : Type 0 where
+  pair : ℕ → ℕ → Pair
+
+abbrev pub asBit : Bool → ℕ
+asBit true = 1
+asBit false = 0
+
+-- where the registers are of one length, it is that of the first
+abbrev pub isQuad : Operand → Bool
+isQuad (D n) = false
+isQuad (Q n) = true
+isQuad (S n) = false
+isQuad (Imm v) = false
+isQuad (Real x) = false
+isQuad Other = false
+isQuad Absent = false
+
+abbrev pub isNumber : Operand → Bool
+isNumber (D n) = false
+isNumber (Q n) = false
+isNumber (S n) = false
+isNumber (Imm v) = true
+isNumber (Real x) = false
+isNumber Other = false
+isNumber Absent = false
+
+abbrev pub sameNumber : ℤ → ℤ → Bool
+sameNumber (pos m) (pos n) = eqb m n
+sameNumber (pos m) (negsuc n) = false
+sameNumber (negsuc m) (pos n) = false
+sameNumber (negsuc m) (negsuc n) = eqb m n
+
+abbrev pub ofLength : Bool → Answer Bits → Answer ℕ
+ofLength quad (accepted (bits q d)) = choose (choose quad q (not q)) (accepted d) (refused 8)
+ofLength quad (refused n) = refused n
+
+-- the number of a register where the form asks for a quadword, Q0 to Q15, or a doubleword, D0 to D31
+unfoldable pub registerIn : Bool → Operand → Answer ℕ
+registerIn quad reg = ofLength quad (vecBits reg)
+
+-- the place that was found; a value that no pair carries is refused with 9
+abbrev pub orNine : Found → Answer ℕ
+orNine (at k) = accepted k
+orNine none = refused 9
+
+-- what three operands stand for; the first that is refused refuses them all
+pub data Three : Type 0 where
+  three : ℕ → ℕ → ℕ → Three
+
+unfoldable pub allThree : Answer ℕ → Answer ℕ → Answer ℕ → Answer Three
+allThree (accepted a) (accepted b) (accepted c) = accepted (three a b c)
+allThree (accepted a) (accepted b) (refused n) = refused n
+allThree (accepted a) (refused n) z = refused n
+allThree (refused n) y z = refused n

@@ -1,0 +1,55 @@
+// Writing a record as a pair of halfwords.
+ghost use mathlib.Core.Path.{_≡_};
+ghost use Rattle.tables.specs.Home.{homeOf};
+ghost use Rattle.tables.specs.Names.{nameOf};
+ghost use Rattle.encode.specs.Answers.{writingAnswer};
+ghost use Rattle.encode.specs.Forms.{isNumber};
+ghost use Rattle.encode.specs.Writing.{inHome, writing};
+use insn::Insn;
+use insn::Operand;
+use insn::Refusal;
+use tables::home::Home;
+
+mod diff;
+mod forms;
+mod modimm;
+mod same3;
+mod shift;
+
+// What a writing answers: the two halfwords, or the refusal.
+pub enum Writing {
+    Wrote(u16, u16),
+    Refused(Refusal),
+}
+
+// Writes mnemonic m and its operands in the table where it is at home.
+fn write_in(home: Home, m: u16, count: u8, a: Operand, b: Operand, c: Operand) -> Writing
+    requires { ⌜ home ≡ homeOf (nameOf m) (isNumber c) ⌝ }
+    ensures { λ r. ⌜ writingAnswer r ≡ inHome home (nameOf m) count a b c ⌝ }
+{
+    match home {
+        Home::Same3(cell) => same3::encode_same3(cell, m, count, a, b, c),
+        Home::Shift(cell) => shift::encode_shift(cell, count, a, b, c),
+        Home::Vmovl(cell) => shift::encode_vmovl(cell, count, a, b),
+        Home::Modimm(cell) => modimm::encode_modimm(cell, m, count, a, b),
+        Home::Diff(cell) => diff::encode_diff(cell, count, a, b, c),
+        Home::Vmov => same3::encode_vmov(count, a, b),
+        Home::Nowhere => Writing::Refused(Refusal::UnknownMnemonic),
+    }
+}
+
+// The pair of a record, whatever its address and its mark.
+pub fn write(i: Insn) -> Writing
+    ensures { λ r. ⌜ writingAnswer r ≡ writing i ⌝ }
+{
+    let c = insn::place(i, 2);
+    let home = tables::home::home_of(i.mnemonic, forms::is_number(c));
+    write_in(
+        home,
+        i.mnemonic,
+        i.count,
+        insn::place(i, 0),
+        insn::place(i, 1),
+        c,
+    )
+}

@@ -1,0 +1,76 @@
+// Writing three registers of the same length.
+ghost use mathlib.Core.Path.{_≡_};
+ghost use Rattle.laws.specs.Answer.{accepted};
+ghost use Rattle.tables.specs.Names.{nameOf, pairwise};
+ghost use Rattle.decode.specs.Operands.{both};
+ghost use Rattle.encode.specs.Answers.{writingAnswer};
+ghost use Rattle.encode.specs.Forms.{three};
+ghost use Rattle.encode.specs.Same3.{same3Pair, same3Form, same3Writing, vmovWriting};
+use crate::Writing;
+use crate::forms;
+use crate::forms::Fields;
+use insn::Operand;
+use insn::Refusal;
+
+const VORR_CELL: u8 = 14;
+
+const VORR: u16 = 12;
+
+// The pair of the cell U:opc:B:size and the registers D:Vd, N:Vn and M:Vm.
+fn same3_pair(cell: u8, quad: bool, d: u16, n: u16, m: u16) -> Writing
+    ensures { λ r. ⌜ writingAnswer r ≡ accepted (same3Pair cell quad d n m) ⌝ }
+{
+    let k = cell as u16;
+    Writing::Wrote(
+        fields::first_halfword(k / 128, 0, d / 16, k % 4 * 16 + n % 16),
+        fields::second_halfword(d, k / 8, n / 16, forms::as_bit(quad), m / 16, k / 4, m),
+    )
+}
+
+// Whether a pairwise mnemonic is in quad form.
+fn is_pairwise_quad(m: u16, quad: bool) -> bool
+    ensures { λ r. ⌜ r ≡ both quad (pairwise (nameOf m)) ⌝ }
+{
+    if quad {
+        return tables::names::is_pairwise(m);
+    }
+    false
+}
+
+// The pair of a mnemonic's cell and its operands' numbers.
+fn same3_form(cell: u8, m: u16, quad: bool, a: u16, b: u16, c: u16) -> Writing
+    ensures { λ r. ⌜ writingAnswer r ≡ same3Form cell (nameOf m) quad (three a b c) ⌝ }
+{
+    if is_pairwise_quad(m, quad) {
+        return Writing::Refused(Refusal::PairwiseQuad);
+    }
+    if cell / 16 % 8 == 2 {
+        return same3_pair(cell, quad, a, c, b);
+    }
+    same3_pair(cell, quad, a, b, c)
+}
+
+// Writes a mnemonic of table A7-9 that stands in a cell.
+pub fn encode_same3(cell: u8, m: u16, count: u8, a: Operand, b: Operand, c: Operand) -> Writing
+    ensures { λ r. ⌜ writingAnswer r ≡ same3Writing cell (nameOf m) count a b c ⌝ }
+{
+    if count != 3 {
+        return Writing::Refused(Refusal::WrongForm);
+    }
+    let quad = forms::is_quad(a);
+    let registers = forms::registers(quad, quad, quad, a, b, c);
+    match registers {
+        Fields::Are(x, y, z) => same3_form(cell, m, quad, x, y, z),
+        Fields::Refused(f) => Writing::Refused(f),
+    }
+}
+
+// Writes VMOV of a register: VORR with equal sources.
+pub fn encode_vmov(count: u8, a: Operand, b: Operand) -> Writing
+    ensures { λ r. ⌜ writingAnswer r ≡ vmovWriting count a b ⌝ }
+{
+    if count != 2 {
+        return Writing::Refused(Refusal::WrongForm);
+    }
+    encode_same3(VORR_CELL, VORR, 3, a, b, b)
+}
