@@ -5,6 +5,7 @@ ghost use Rattle.capi.specs.Codes.{codeOf};
 ghost use Rattle.capi.specs.Words.{recordAfter};
 use decode::Reading;
 
+mod records;
 mod words;
 
 // Reads a pair: 0 and its record, or the refusal's number with the record untouched.
