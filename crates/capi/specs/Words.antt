@@ -10,6 +10,7 @@ use Rattle.insn.specs.declared.Mark.the-variants.{T1, T2}
 use Rattle.insn.specs.declared.Operand.{Operand}
 use Rattle.insn.specs.declared.Operand.the-variants.{D, Q, S, Imm, Float, Other, Absent}
 use Rattle.immediates.specs.Signed.{patternOf}
+use Rattle.encode.specs.Forms.{Pair, pair}
 
 abbrev pub markWord : Mark → ℕ
 markWord T1 = 1
@@ -47,3 +48,8 @@ recordWords i =
 abbrev pub recordAfter : Answer Insn → List ℕ → List ℕ
 recordAfter (accepted i) before = recordWords i
 recordAfter (refused n) before = before
+
+-- the pair after a writing: the halfwords, or those that were there
+abbrev pub pairAfter : Answer Pair → List ℕ → List ℕ
+pairAfter (accepted (pair hw1 hw2)) before = hw1 ∷ hw2 ∷ []
+pairAfter (refused n) before = before

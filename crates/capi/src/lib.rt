@@ -2,8 +2,11 @@
 ghost use mathlib.Core.Path.{_≡_};
 ghost use Rattle.decode.specs.Reading.{reading};
 ghost use Rattle.capi.specs.Codes.{codeOf};
-ghost use Rattle.capi.specs.Words.{recordAfter};
+ghost use Rattle.encode.specs.Writing.{writing};
+ghost use Rattle.capi.specs.Records.{recordOf};
+ghost use Rattle.capi.specs.Words.{recordAfter, pairAfter};
 use decode::Reading;
+use encode::Writing;
 
 mod records;
 mod words;
@@ -19,6 +22,22 @@ pub extern "C" fn bodlixo_read(hw1: u16, hw2: u16, address: u32, out: &mut [u64;
         Reading::Refused(f) => insn::refusal_number(f) as u32,
         Reading::Read(i) => {
             *out = words::record_words(i);
+            0
+        }
+    }
+}
+
+// Writes a record: 0 and its pair, or the refusal's number with the pair untouched.
+#[no_mangle]
+pub extern "C" fn bodlixo_write(words: &[u64; 10], pair: &mut [u16; 2]) -> u32
+    ensures code { λ r. ⌜ r ≡ codeOf (writing (recordOf (now (words .entry)))) ⌝ }
+    ensures pair { λ r. ⌜ now (pair .exit) ≡ pairAfter (writing (recordOf (now (words .entry)))) (now (pair .entry)) ⌝ }
+{
+    let answer = encode::write(records::record_of(words));
+    match answer {
+        Writing::Refused(f) => insn::refusal_number(f) as u32,
+        Writing::Wrote(hw1, hw2) => {
+            *pair = [hw1, hw2];
             0
         }
     }
