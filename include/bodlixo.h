@@ -13,4 +13,8 @@
 /* Reads a pair at an address. On a refusal the record is untouched. */
 uint32_t bodlixo_read(uint16_t hw1, uint16_t hw2, uint32_t address, uint64_t record[10]);
 
+/* Writes a record as a pair, whatever its address and mark. On a refusal the pair is untouched. A word too large for
+   its field stands for a value that no pair has; the bits of a not-a-number stand for a not-a-number. */
+uint32_t bodlixo_write(const uint64_t record[10], uint16_t pair[2]);
+
 #endif
