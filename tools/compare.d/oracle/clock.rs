@@ -2,7 +2,7 @@
 
 use std::time::Instant;
 
-const ROUNDS: usize = 21;
+pub const ROUNDS: usize = 21;
 
 /// The median of each over rounds that take turns, in nanoseconds a call. One round of each
 /// before them is not counted.

@@ -14,5 +14,6 @@ pub mod writing;
 
 pub use family::{decode, encode, family, Family};
 pub use names::Names;
+pub use original::isa;
 pub use record::Record;
 pub use report::Report;

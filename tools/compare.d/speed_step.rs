@@ -1,0 +1,163 @@
+//! How fast pairs are stepped beside a plain interpreter: the same pairs on the same registers, in
+//! turns. Ours is the program named by the argument, and the time of its start is taken off.
+
+use oracle::clock::{beside, ROUNDS};
+use oracle::isa::{FpReg, Operand};
+use oracle::{decode, Report};
+use std::hint::black_box;
+use std::process::{Command, ExitCode};
+
+include!("../../crates/step_bench/src/cases.rt");
+
+/// How often the list of pairs is stepped in one measurement.
+const TIMES: usize = 5_000;
+
+fn main() -> ExitCode {
+    let program = std::env::args().nth(1).expect("the program that steps pairs");
+    let ours = |times: usize| {
+        let output = Command::new(&program).arg(times.to_string()).output();
+        String::from_utf8_lossy(&output.expect("our program runs").stdout).into_owned()
+    };
+    let mut report = Report::default();
+    for times in [0, 1, 2, TIMES] {
+        report.expect(ours(times), interpreted(times), || format!("{times} rounds of the list"));
+    }
+
+    let pairs = TIMES * PAIRS.len();
+    let interpret = || drop(black_box(interpreted(TIMES)));
+    let (interpreter, whole) = beside(pairs, interpret, || drop(ours(TIMES)));
+    let (_, start) = beside(pairs, || (), || drop(ours(0)));
+    let ours = whole - start;
+    println!(
+        "speed_step: {pairs} pairs, median of {ROUNDS} rounds: \
+         interpreter {interpreter:.1} ns, ours {ours:.1} ns, {:.1} times as fast",
+        interpreter / ours
+    );
+    report.status()
+}
+
+/// The line that our program writes.
+fn interpreted(times: usize) -> String {
+    let mut file = START;
+    let mut done = 0;
+    for _ in 0..times {
+        for [hw1, hw2] in black_box(PAIRS) {
+            done += usize::from(step(&mut file, hw1, hw2).is_some());
+        }
+    }
+    let sum = file.iter().fold(0, |sum: u64, &x| sum.wrapping_add(x));
+    format!("{done} pairs, registers {sum}\n")
+}
+
+/// One pair on the registers; none where it has no meaning, and then nothing is written.
+fn step(file: &mut [u64; 32], hw1: u16, hw2: u16) -> Option<()> {
+    let insn = decode(hw1, hw2, 0)?;
+    let (stem, kind) = insn.mnemonic.split_once('.').unwrap_or((insn.mnemonic, ""));
+    let mut operands = insn.operands.as_slice();
+    let (target, second, third) = (operands.next()?, operands.next()?, operands.next());
+    let (d, count) = doublewords(target)?;
+    for half in 0..count {
+        let source = |operand| doublewords(operand).map(|(at, _)| file[at + half]);
+        let old = file[d + half];
+        file[d + half] = match (second, third) {
+            (Operand::Imm(v), None) => constant(stem, repeated(width(kind), v as u64), old)?,
+            (Operand::FpImm(v), None) => repeated(32, (v as f32).to_bits().into()),
+            (n, None) => source(n)?,
+            (n, Some(Operand::Imm(k))) => shifted(stem, kind, source(n)?, k as u32)?,
+            (n, Some(m)) if kind.is_empty() => bitwise(stem, old, source(n)?, source(m)?)?,
+            (n, Some(m)) => lanes(stem, kind, old, source(n)?, source(m)?)?,
+        };
+    }
+    Some(())
+}
+
+/// A register's first doubleword, and how many it has.
+fn doublewords(operand: Operand) -> Option<(usize, usize)> {
+    match operand {
+        Operand::FpReg(FpReg::D(n)) => Some((n.into(), 1)),
+        Operand::FpReg(FpReg::Q(n)) => Some((2 * usize::from(n), 2)),
+        _ => None,
+    }
+}
+
+fn width(kind: &str) -> u32 {
+    match kind.trim_start_matches(['i', 's', 'u']) {
+        "8" => 8,
+        "16" => 16,
+        "32" => 32,
+        _ => 64,
+    }
+}
+
+/// The lowest bits of a number in every lane.
+fn repeated(w: u32, v: u64) -> u64 {
+    each(w, 0, 0, 0, |_, _, _| v)
+}
+
+/// A function of the lanes of three doublewords, lane by lane.
+fn each(w: u32, d: u64, n: u64, m: u64, f: impl Fn(u64, u64, u64) -> u64) -> u64 {
+    let mask = u64::MAX >> (64 - w);
+    let lane = |x: u64, at: u32| x >> at & mask;
+    (0..64)
+        .step_by(w as usize)
+        .fold(0, |all, at| all | (f(lane(d, at), lane(n, at), lane(m, at)) & mask) << at)
+}
+
+fn constant(stem: &str, v: u64, d: u64) -> Option<u64> {
+    Some(match stem {
+        "vmov" => v,
+        "vmvn" => !v,
+        "vorr" => d | v,
+        "vbic" => d & !v,
+        _ => return None,
+    })
+}
+
+fn bitwise(stem: &str, d: u64, n: u64, m: u64) -> Option<u64> {
+    Some(match stem {
+        "vand" => n & m,
+        "vorr" => n | m,
+        "veor" => n ^ m,
+        "vbic" => n & !m,
+        "vorn" => n | !m,
+        "vbsl" => n & d | m & !d,
+        "vbit" => n & m | d & !m,
+        "vbif" => d & m | n & !m,
+        _ => return None,
+    })
+}
+
+/// A lane as a whole number, by its sign where the name says so.
+fn whole(w: u32, signed: bool, x: u64) -> i64 {
+    if signed { (x << (64 - w)) as i64 >> (64 - w) } else { x as i64 }
+}
+
+fn shifted(stem: &str, kind: &str, n: u64, k: u32) -> Option<u64> {
+    let w = width(kind);
+    Some(match (stem, kind.starts_with('s')) {
+        ("vshl", _) => each(w, 0, n, 0, |_, n, _| n << k),
+        ("vshr", true) => each(w, 0, n, 0, |_, n, _| (whole(w, true, n) >> k.min(63)) as u64),
+        ("vshr", false) => each(w, 0, n, 0, |_, n, _| n.checked_shr(k).unwrap_or(0)),
+        _ => return None,
+    })
+}
+
+fn lanes(stem: &str, kind: &str, d: u64, n: u64, m: u64) -> Option<u64> {
+    let w = width(kind);
+    let whole = |x| whole(w, kind.starts_with('s'), x);
+    let ones = |holds: bool| if holds { u64::MAX } else { 0 };
+    Some(match stem {
+        "vadd" => each(w, d, n, m, |_, n, m| n.wrapping_add(m)),
+        "vsub" => each(w, d, n, m, |_, n, m| n.wrapping_sub(m)),
+        "vmul" => each(w, d, n, m, |_, n, m| n.wrapping_mul(m)),
+        "vmla" => each(w, d, n, m, |d, n, m| d.wrapping_add(n.wrapping_mul(m))),
+        "vmls" => each(w, d, n, m, |d, n, m| d.wrapping_sub(n.wrapping_mul(m))),
+        "vmax" => each(w, d, n, m, |_, n, m| if whole(n) < whole(m) { m } else { n }),
+        "vmin" => each(w, d, n, m, |_, n, m| if whole(m) < whole(n) { m } else { n }),
+        "vcgt" => each(w, d, n, m, |_, n, m| ones(whole(n) > whole(m))),
+        "vcge" => each(w, d, n, m, |_, n, m| ones(whole(n) >= whole(m))),
+        "vceq" => each(w, d, n, m, |_, n, m| ones(n == m)),
+        "vtst" => each(w, d, n, m, |_, n, m| ones(n & m != 0)),
+        _ => return None,
+    })
+}
