@@ -33,7 +33,7 @@ use Rattle.immediates.proofs.Promises.{patternBack, floatOnce}
 use Rattle.decode.specs.Operands.{both}
 use Rattle.encode.specs.Forms.{sameNumber, orNine}
 use Rattle.encode.specs.Modimm.{sameValue, readsAs, OnlyPlace, immediateOf}
-use Rattle.encode.proofs.Tests.{never, wrong, both-true, not-holds, same-text, same-number}
+use Rattle.encode.proofs.Tests.{wrong, both-true, both-no, not-holds, same-text, same-number}
 
 -- the fields of a place
 abbrev op : ℕ → ℕ
@@ -262,13 +262,9 @@ float-read name x t h e =
     let top : op t ≡ t / 256 / 16 = omega arith in
     (eqb-true (t / 256) 15 (sym (float-rows (t / 256) (omega arith)) ∙ (rw top at (w .0))), w .1)
 
-no-zero : (b : Bool) → both b false ≡ false
-no-zero true = refl
-no-zero false = refl
-
 float-here : (x : Ieee.Float) (b : ℕ) → readsAs "vmov.f32" (Float x) 0 15 b ≡ Ieee.eq (floatOf b) x
 unfolding readsAs modimm needsNonzero constantAt operandIn
-float-here x b = rw (no-zero (eqb b 0))
+float-here x b = rw (both-no (eqb b 0))
 
 module _ (x : Ieee.Float) (f : Ieee.fits Ieee.binary64 x ≡ true) where
   abbrev here : ℕ → Bool
