@@ -1,7 +1,9 @@
 pub mod Amounts
+pub mod Canonical
 pub mod Immediates
 pub mod Pairs
 pub mod Registers
+pub mod RoundDiff
 pub mod RoundSame3
 pub mod Routing
 pub mod Tests

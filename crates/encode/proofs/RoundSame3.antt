@@ -35,10 +35,11 @@ use Rattle.decode.specs.Same3.{shiftsByRegister, same3Of, same3Reading}
 use Rattle.decode.specs.Reading.{reading, inFamily}
 use Rattle.encode.specs.Forms.{Pair, pair, asBit, isQuad, registerIn, Three, three, allThree}
 use Rattle.encode.specs.Same3.{same3Pair, same3Form, same3Writing, vorrCell, vmovWriting}
-use Rattle.encode.specs.Spelling.{Spelling, sameRegister, isZero, movedName, renamed, canonical, marked}
+use Rattle.encode.specs.Spelling.{sameRegister, isZero, movedName, canonical, marked}
 use Rattle.encode.specs.Writing.{writing}
 use Rattle.encode.specs.Promises.{ReadsAs}
 use Rattle.encode.proofs.Registers.{Threefold, threefold, chosen, passed, then, operands, two-operands, register-back, register-forth, quad-of, no-number, no-zero, same-registers}
+use Rattle.encode.proofs.Canonical.{hw1Of, hw2Of, spelt, as-spelt, as-vmov}
 use Rattle.encode.proofs.Tests.{both-true, both-no}
 use Rattle.encode.proofs.Routing.{SameBits, to-same, set-bit, bit-set, bit-small, number-back, number-hi, number-lo, number-small, upper-two, lower-four, six}
 
@@ -81,12 +82,6 @@ fields : (hw1 hw2 address row size opc d n m : ℕ) (quad : Bool) → SameBits h
     → reading hw1 hw2 address ≡ same3Of (cellAt same3 row size) quad opc d n m address
 unfolding reading inFamily same3Reading
 fields hw1 hw2 address row size opc d n m quad f er es eq eo ed en em = rw (to-same hw1 hw2 f, er, es, eq, eo, ed, en, em)
-
-abbrev hw1Of : Pair → ℕ
-hw1Of (pair a b) = a
-
-abbrev hw2Of : Pair → ℕ
-hw2Of (pair a b) = b
 
 -- the reading of a pair that was written
 module _ (k d n m : ℕ) (quad : Bool) (hk : k < 256) (hd : d < 32) (hn : n < 32) (hm : m < 32) where
@@ -186,19 +181,6 @@ no-vorr k h e =
     (agree (λ (k : ℕ). choose (shiftsByRegister (field 6 3 k)) (eqt (cell4 same3 k) "vorr") false) (λ (k : ℕ). false) 256 refl k h)
 
 -- WRITTEN, THEN READ
-
-module _ (m count : ℕ) (a b c : Operand) where
-  abbrev pub spelt : Spelling
-  spelt = record { mnemonic = m; count = count; first = a; second = b; third = c }
-
-  pub as-spelt : both (eqt (nameOf m) "vorr") (sameRegister b c) ≡ false → both (not (eqt (movedName (nameOf m)) "")) (isZero c) ≡ false
-      → canonical spelt ≡ spelt
-  unfolding canonical
-  as-spelt e z = rw (e, z)
-
-  as-vmov : both (eqt (nameOf m) "vorr") (sameRegister b c) ≡ true → canonical spelt ≡ renamed "vmov" spelt
-  unfolding canonical
-  as-vmov e = rw e
 
 pub same3-back : (m k count : ℕ) (a b c : Operand) (number : Bool) (hw1 hw2 address : ℕ) → homeOf (nameOf m) number ≡ Same3 k
     → same3Writing k (nameOf m) count a b c ≡ accepted (pair hw1 hw2) → ReadsAs hw1 hw2 address (canonical (spelt m count a b c))
