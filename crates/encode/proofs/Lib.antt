@@ -5,5 +5,6 @@ pub mod Pairs
 pub mod Registers
 pub mod RoundDiff
 pub mod RoundSame3
+pub mod RoundShift
 pub mod Routing
 pub mod Tests
