@@ -186,8 +186,8 @@ diff-back m k count a b c number hw1 hw2 address home e =
     let sized = three-columns k (st .within) (rw (st .spelled) filled) in
     let r = pair-reads k (w .x) (w .y) (w .z) (st .within) (w .first-is .1) (w .second-is .1) (w .third-is .1) sized hw1 hw2 address (w .packed) in
     let plain =
-        as-spelt m count a b c (rw vorr)
-        (rw (no-zero (quadM (shapeAt (k / 4))) (w .z) c (w .third-is .0)) (both-no (not (eqt (movedName (nameOf m)) "")))) in
+    as-spelt m count a b c (rw vorr)
+    (rw (no-zero (quadM (shapeAt (k / 4))) (w .z) c (w .third-is .0)) (both-no (not (eqt (movedName (nameOf m)) "")))) in
     record {
       first-halfword = r .1;
       second-halfword = r .2;

@@ -93,6 +93,7 @@ module _ (k d n m : ℕ) (quad : Bool) (hk : k < 256) (hd : d < 32) (hn : n < 32
 
   f1 : FirstFields (bit 7 k) 0 (bit 4 d) (field 1 0 k * 16 + field 3 0 n)
   f1 = firstUnpacked (bit 7 k) 0 (bit 4 d) (field 1 0 k * 16 + field 3 0 n) (omega arith) (omega arith) (omega arith) (omega arith)
+
   f2 : SecondFields (field 3 0 d) (field 6 3 k) (bit 4 n) (asBit quad) (bit 4 m) (bit 2 k) (field 3 0 m)
   f2 =
       secondUnpacked (field 3 0 d) (field 6 3 k) (bit 4 n) (asBit quad) (bit 4 m) (bit 2 k) (field 3 0 m)

@@ -261,8 +261,7 @@ module _ (k count : ℕ) (a b c : Operand) (hw1 hw2 address : ℕ) (hk : k < 256
   unfolding shiftOf
   is-read =
       let s = w .third-is .reads-so in
-      let r = pair-reads k (bitB class (isQuad a) k) (w .t) (w .x) (w .y) (b-small class (isQuad a) k) (w .third-is .within) (w .first-is .1) (w .second-is .1) (s .sized) hw1 hw2 address (w .packed) in
-      (
+      let r = pair-reads k (bitB class (isQuad a) k) (w .t) (w .x) (w .y) (b-small class (isQuad a) k) (w .third-is .within) (w .first-is .1) (w .second-is .1) (s .sized) hw1 hw2 address (w .packed) in (
         rw (r .0, same-class (isQuad a) k hk filled, s .allowed, s .its-column, column-of k, same-cell (isQuad a) k hk filled, filled),
         r .1,
         r .2,
@@ -366,11 +365,10 @@ vshll-small k h = omega arith
 
 vmovl-names : (k : ℕ) → k < 8 → (eqt (cell4 vmovl k) "vorr" ≡ false) × (eqt (movedName (cell4 vmovl k)) "" ≡ true)
 unfolding values vmovl
-vmovl-names k h =
-    (
-      agree (λ (k : ℕ). eqt (cell4 vmovl k) "vorr") (λ (k : ℕ). false) 8 refl k h,
-      agree (λ (k : ℕ). eqt (movedName (cell4 vmovl k)) "") (λ (k : ℕ). true) 8 refl k h,
-    )
+vmovl-names k h = (
+  agree (λ (k : ℕ). eqt (cell4 vmovl k) "vorr") (λ (k : ℕ). false) 8 refl k h,
+  agree (λ (k : ℕ). eqt (movedName (cell4 vmovl k)) "") (λ (k : ℕ). true) 8 refl k h,
+)
 
 pub vmovl-back : (m k count : ℕ) (a b c : Operand) (number : Bool) (hw1 hw2 address : ℕ) → homeOf (nameOf m) number ≡ Vmovl k → (count ≡ 2 → c ≡ Absent)
     → vmovlWriting k count a b ≡ accepted (pair hw1 hw2) → ReadsAs hw1 hw2 address (canonical (spelt m count a b c))
@@ -555,16 +553,16 @@ module _ (k q t d m address : ℕ) (i : Insn) (mark : Mark) (other : ℕ) (p : P
           → writing (marked i mark other) ≡ accepted p
       go false ez allowed filled e =
           let r =
-              operands (numberOf (cell4 shiftCells k)) T1 address (vecOf (quadD cls (isSet q)) d) (vecOf (quadM cls (isSet q)) m) (amount its) i
-              (sym (by-class cls (numberOf (cell4 shiftCells k)) (numberOf (cellAt vmovl (bit 7 k) (k % 4))) (isSet q) its d m address ez) ∙ e) in
+          operands (numberOf (cell4 shiftCells k)) T1 address (vecOf (quadD cls (isSet q)) d) (vecOf (quadM cls (isSet q)) m) (amount its) i
+          (sym (by-class cls (numberOf (cell4 shiftCells k)) (numberOf (cellAt vmovl (bit 7 k) (k % 4))) (isSet q) its d m address ez) ∙ e) in
           let third : r .c ≡ Imm (pos its) = cc (r .third) in
           rw (← r .is, third)
           (writes (numberOf (cell4 shiftCells k)) first-cell mark other (pos its) (r .a) (r .b) (shift-home k hk filled)
           ∙ row-writes allowed filled (r .a) (r .b) (r .first) (r .second))
       go true ez allowed filled e =
           let r =
-              two-operands (numberOf (cellAt vmovl (bit 7 k) (k % 4))) T1 address (vecOf (quadD cls (isSet q)) d) (vecOf (quadM cls (isSet q)) m) i
-              (sym (by-zero cls (numberOf (cell4 shiftCells k)) (numberOf (cellAt vmovl (bit 7 k) (k % 4))) (isSet q) its d m address ez) ∙ e) in
+          two-operands (numberOf (cellAt vmovl (bit 7 k) (k % 4))) T1 address (vecOf (quadD cls (isSet q)) d) (vecOf (quadM cls (isSet q)) m) i
+          (sym (by-zero cls (numberOf (cell4 shiftCells k)) (numberOf (cellAt vmovl (bit 7 k) (k % 4))) (isSet q) its d m address ez) ∙ e) in
           let is = both-true (isLong cls) (eqb its 0) ez in
           let j = bit 7 k * 4 + k % 4 in
           let cell : cell4 vmovl j ≡ cellAt vmovl (bit 7 k) (k % 4) = rw (moved-row k, moved-column k) in

@@ -64,7 +64,7 @@ module _ (hw1 hw2 : ℕ) where
   unfolding familyOf
   to-modimm s = rw (processing (s .top) (s .middle), one-not-zero _ (s .a), eq-eqb _ 1 (s .b4), s .escapes)
 
-  abbrev Route : Family → Type 0
+  abbrev pub Route : Family → Type 0
   Route ThreeSame = SameBits hw1
   Route ThreeDifferent = DiffBits hw1 hw2
   Route Shift = ImmediateBits hw1 hw2 false
