@@ -33,19 +33,19 @@ use Rattle.immediates.proofs.Promises.{patternBack, floatOnce}
 use Rattle.decode.specs.Operands.{both}
 use Rattle.encode.specs.Forms.{sameNumber, orNine}
 use Rattle.encode.specs.Modimm.{sameValue, readsAs, OnlyPlace, immediateOf}
-use Rattle.encode.proofs.Tests.{never, wrong, both-true, not-holds, same-text, same-number}
+use Rattle.encode.proofs.Tests.{wrong, both-true, both-no, not-holds, same-text, same-number}
 
 -- the fields of a place
-abbrev op : ℕ → ℕ
+abbrev pub op : ℕ → ℕ
 op t = bit 12 t
 
-abbrev cmode : ℕ → ℕ
+abbrev pub cmode : ℕ → ℕ
 cmode t = field 11 8 t
 
-abbrev imm8 : ℕ → ℕ
+abbrev pub imm8 : ℕ → ℕ
 imm8 t = field 7 0 t
 
-row-of : (t : ℕ) → t < 8192 → cellAt modimm (op t) (cmode t) ≡ cell16 modimm (t / 256)
+pub row-of : (t : ℕ) → t < 8192 → cellAt modimm (op t) (cmode t) ≡ cell16 modimm (t / 256)
 row-of t h = let top : op t ≡ t / 256 / 16 = omega arith in rw top
 
 pub record Reads (name : String) (value : Operand) (t : ℕ) : Type 0 where
@@ -86,7 +86,7 @@ isNumber eachBit = true
 isNumber float = false
 isNumber undefined = false
 
-abbrev isFloat : Constant → Bool
+abbrev pub isFloat : Constant → Bool
 isFloat (byte bits place ones) = false
 isFloat eachBit = false
 isFloat float = true
@@ -128,7 +128,7 @@ module _ (m cell : ℕ) (home : homeOf (nameOf m) false ≡ Modimm cell) where
       let here : homeOf (nameOf m) false ≡ Modimm (firstRow r) = rw number at (modimm-home false r h filled) in
       cc (sym here ∙ home)
 
-  only-number : (v : ℤ) → OnlyPlace (nameOf m) (Imm v) (guess cell (patternOf v))
+  pub only-number : (v : ℤ) → OnlyPlace (nameOf m) (Imm v) (guess cell (patternOf v))
   only-number v u l e =
       let r = says (nameOf m) (Imm v) u e in
       let w = carried-number (constantAt (op u) (cmode u)) (imm8 u) v (omega arith) (r .carried) in
@@ -208,7 +208,7 @@ number-place name value g h one =
     go false = refl
 
 -- a cell has a mnemonic's number exactly if it has its name
-spelled-back : (r : ℕ) → r < 32 → choose (eqt (cell16 modimm r) "") (cell16 modimm r) (nameOf (numberOf (cell16 modimm r))) ≡ cell16 modimm r
+pub spelled-back : (r : ℕ) → r < 32 → choose (eqt (cell16 modimm r) "") (cell16 modimm r) (nameOf (numberOf (cell16 modimm r))) ≡ cell16 modimm r
 unfolding values modimm names nameOf numberOf
 spelled-back = agree (λ (r : ℕ). choose (eqt (cell16 modimm r) "") (cell16 modimm r) (nameOf (numberOf (cell16 modimm r)))) (cell16 modimm) 32 refl
 
@@ -220,7 +220,7 @@ holds-of : (b : Bool) → T b → b ≡ true
 holds-of true t = refl
 holds-of false t = absurd t
 
-equal : (s : String) → eqt s s ≡ true
+pub equal : (s : String) → eqt s s ≡ true
 equal s = holds-of (eqt s s) (eqt-refl s)
 
 module _ (m t : ℕ) (hm : m < 346) (ht : t < 8192) where
@@ -243,7 +243,7 @@ module _ (m t : ℕ) (hm : m < 346) (ht : t < 8192) where
       go false e = refl
 
 -- FLOATS: VMOV.F32 stands in row 15 alone
-float-rows : (r : ℕ) → r < 32 → isFloat (constantAt (r / 16) (r % 16)) ≡ eqb r 15
+pub float-rows : (r : ℕ) → r < 32 → isFloat (constantAt (r / 16) (r % 16)) ≡ eqb r 15
 unfolding values constantAt
 float-rows = agree (λ (r : ℕ). isFloat (constantAt (r / 16) (r % 16))) (λ (r : ℕ). eqb r 15) 32 refl
 
@@ -262,13 +262,9 @@ float-read name x t h e =
     let top : op t ≡ t / 256 / 16 = omega arith in
     (eqb-true (t / 256) 15 (sym (float-rows (t / 256) (omega arith)) ∙ (rw top at (w .0))), w .1)
 
-no-zero : (b : Bool) → both b false ≡ false
-no-zero true = refl
-no-zero false = refl
-
 float-here : (x : Ieee.Float) (b : ℕ) → readsAs "vmov.f32" (Float x) 0 15 b ≡ Ieee.eq (floatOf b) x
 unfolding readsAs modimm needsNonzero constantAt operandIn
-float-here x b = rw (no-zero (eqb b 0))
+float-here x b = rw (both-no (eqb b 0))
 
 module _ (x : Ieee.Float) (f : Ieee.fits Ieee.binary64 x ≡ true) where
   abbrev here : ℕ → Bool

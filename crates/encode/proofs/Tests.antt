@@ -48,3 +48,7 @@ number-other v w n = go (sameNumber v w) refl
     go : (b : Bool) → sameNumber v w ≡ b → b ≡ false
     go true e = absurd (n (same-number v w e))
     go false e = refl
+
+pub both-no : (b : Bool) → both b false ≡ false
+both-no true = refl
+both-no false = refl

@@ -48,7 +48,7 @@ is-number (inf s) e = tt
 is-number (fin s m d) e = tt
 
 -- an immediate's float has that immediate
-fitting : (b : ℕ) → b < 256 → fits binary64 (floatOf b) ≡ true
+pub fitting : (b : ℕ) → b < 256 → fits binary64 (floatOf b) ≡ true
 unfolding values floatOf fits
 fitting = agree (λ (b : ℕ). fits binary64 (floatOf b)) (λ (b : ℕ). true) 256 refl
 

@@ -1,0 +1,99 @@
+-- What of a record a pair carries: the mnemonic and the operands.
+-- Assumes nothing.
+use mathlib.Core.Bool.{Bool, true, false, not}
+use mathlib.Core.Path.{_≡_}
+use Prim.Native.Nat.{ℕ}
+use Prim.Native.String.{String}
+use lib.Dec.{eqb}
+use lib.Ieee.{Float, binary64, fits}
+use lib.IntN.{ℤ, pos, negsuc}
+use lib.Text.{eqt}
+use Rattle.laws.specs.Choice.{choose}
+use Rattle.insn.specs.declared.Insn.{Insn}
+use Rattle.insn.specs.declared.Mark.{Mark}
+use Rattle.insn.specs.declared.Operand.{Operand}
+use Rattle.insn.specs.declared.Operand.the-variants.{D, Q, S, Imm, Float as Real, Other, Absent}
+use Rattle.insn.specs.Record.{placeAt}
+use Rattle.tables.specs.Names.{nameOf, numberOf}
+use Rattle.decode.specs.Operands.{both, insn}
+
+pub record Spelling : Type 0 where
+  pub mnemonic : ℕ
+  pub count : ℕ
+  pub first : Operand
+  pub second : Operand
+  pub third : Operand
+
+-- places past the count are absent
+abbrev pub spelling : Insn → Spelling
+spelling i = record { mnemonic = i .mnemonic; count = i .count; first = placeAt i 0; second = placeAt i 1; third = placeAt i 2 }
+
+-- the record of a spelling
+abbrev pub spelled : Spelling → Mark → ℕ → Insn
+spelled s mark address = insn (s .mnemonic) mark address (s .count) (s .first) (s .second) (s .third)
+
+-- the same record with another mark and address
+abbrev pub marked : Insn → Mark → ℕ → Insn
+marked i mark address =
+    record { mnemonic = i .mnemonic; mark = mark; address = address; count = i .count; first = i .first; second = i .second; third = i .third }
+
+abbrev pub sameRegister : Operand → Operand → Bool
+sameRegister (D m) (D n) = eqb m n
+sameRegister (D m) (Q n) = false
+sameRegister (D m) (S n) = false
+sameRegister (D m) (Imm v) = false
+sameRegister (D m) (Real x) = false
+sameRegister (D m) Other = false
+sameRegister (D m) Absent = false
+sameRegister (Q m) (Q n) = eqb m n
+sameRegister (Q m) (D n) = false
+sameRegister (Q m) (S n) = false
+sameRegister (Q m) (Imm v) = false
+sameRegister (Q m) (Real x) = false
+sameRegister (Q m) Other = false
+sameRegister (Q m) Absent = false
+sameRegister (S m) o = false
+sameRegister (Imm v) o = false
+sameRegister (Real x) o = false
+sameRegister Other o = false
+sameRegister Absent o = false
+
+abbrev pub isZero : Operand → Bool
+isZero (Imm (pos n)) = eqb n 0
+isZero (Imm (negsuc n)) = false
+isZero (D n) = false
+isZero (Q n) = false
+isZero (S n) = false
+isZero (Real x) = false
+isZero Other = false
+isZero Absent = false
+
+-- VMOVL for VSHLL; "" for any other name
+abbrev pub movedName : String → String
+movedName name =
+    choose (eqt name "vshll.s8") "vmovl.s8"
+    (choose (eqt name "vshll.s16") "vmovl.s16"
+    (choose (eqt name "vshll.s32") "vmovl.s32"
+    (choose (eqt name "vshll.u8") "vmovl.u8"
+    (choose (eqt name "vshll.u16") "vmovl.u16"
+    (choose (eqt name "vshll.u32") "vmovl.u32" "")))))
+
+-- another name, and the first two operands alone
+abbrev pub renamed : String → Spelling → Spelling
+renamed name s = record { mnemonic = numberOf name; count = 2; first = s .first; second = s .second; third = Absent }
+
+-- VORR with equal sources is read as VMOV, and VSHLL by 0 as VMOVL; anything else is read as it is spelled
+unfoldable pub canonical : Spelling → Spelling
+canonical s =
+    choose (both (eqt (nameOf (s .mnemonic)) "vorr") (sameRegister (s .second) (s .third))) (renamed "vmov" s)
+    (choose (both (not (eqt (movedName (nameOf (s .mnemonic))) "")) (isZero (s .third))) (renamed (movedName (nameOf (s .mnemonic))) s) s)
+
+-- a place that holds what the code's types can: a float has 64 bits
+abbrev pub Held : Operand → Type 0
+Held (Real x) = fits binary64 x ≡ true
+Held (D n) = Unit {0}
+Held (Q n) = Unit {0}
+Held (S n) = Unit {0}
+Held (Imm v) = Unit {0}
+Held Other = Unit {0}
+Held Absent = Unit {0}
