@@ -8,6 +8,7 @@ use lib.Dec.{eqb}
 use lib.Ieee.{Float, binary64, fits}
 use lib.IntN.{ℤ, pos, negsuc}
 use lib.Text.{eqt}
+use Rattle.laws.specs.Answer.{Answer, accepted, refused}
 use Rattle.laws.specs.Choice.{choose}
 use Rattle.insn.specs.declared.Insn.{Insn}
 use Rattle.insn.specs.declared.Mark.{Mark}
@@ -16,6 +17,7 @@ use Rattle.insn.specs.declared.Operand.the-variants.{D, Q, S, Imm, Float as Rea
 use Rattle.insn.specs.Record.{placeAt}
 use Rattle.tables.specs.Names.{nameOf, numberOf}
 use Rattle.decode.specs.Operands.{both, insn}
+use Rattle.encode.specs.Forms.{Pair, pair}
 
 pub record Spelling : Type 0 where
   pub mnemonic : ℕ
@@ -97,3 +99,8 @@ Held (S n) = Unit {0}
 Held (Imm v) = Unit {0}
 Held Other = Unit {0}
 Held Absent = Unit {0}
+
+-- a pair that was read, for the pair itself; a refusal stays what it is
+abbrev pub samePair : Answer Insn → ℕ → ℕ → Answer Pair
+samePair (accepted i) hw1 hw2 = accepted (pair hw1 hw2)
+samePair (refused n) hw1 hw2 = refused n

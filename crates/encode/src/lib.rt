@@ -4,7 +4,10 @@ ghost use Rattle.tables.specs.Home.{homeOf};
 ghost use Rattle.tables.specs.Names.{nameOf};
 ghost use Rattle.encode.specs.Answers.{writingAnswer};
 ghost use Rattle.encode.specs.Forms.{isNumber};
+ghost use Rattle.decode.specs.Reading.{reading};
+ghost use Rattle.encode.specs.Spelling.{samePair};
 ghost use Rattle.encode.specs.Writing.{inHome, writing};
+use decode::Reading;
 use insn::Insn;
 use insn::Operand;
 use insn::Refusal;
@@ -52,4 +55,15 @@ pub fn write(i: Insn) -> Writing
         insn::place(i, 1),
         c,
     )
+}
+
+// Reads a pair and writes it again: a pair that is read comes back, whatever the address.
+pub fn read_and_write(hw1: u16, hw2: u16, address: u32) -> Writing
+    ensures { λ r. ⌜ writingAnswer r ≡ samePair (reading hw1 hw2 address) hw1 hw2 ⌝ }
+{
+    let answer = decode::read(hw1, hw2, address);
+    match answer {
+        Reading::Refused(f) => Writing::Refused(f),
+        Reading::Read(i) => write(i),
+    }
 }
