@@ -1,12 +1,13 @@
 // Runs worked vectors through the machine, each on doublewords and on both halves of quadwords, and prints how many passed.
-mod vectors;
-
-use immediates::signed::signed_of;
+// A line of the input is a vector: mnemonic, shape, number, old target, first source, second source, result.
+ghost use Prim.Native.Nat.{_<_, _≤_};
 use insn::Insn;
 use insn::Mark;
 use insn::Operand;
+use libc::STDIN_FILENO;
 use libc::STDOUT_FILENO;
 use machine::Outcome;
+use tables::names;
 
 fn put(text: &[u8]) {
     io::write_all(STDOUT_FILENO, text);
@@ -18,18 +19,44 @@ fn put_line(label: &[u8], n: u64) {
     put(b"\n");
 }
 
-// 1 for a vector that passed; 0, with a line that has its mnemonic, for one that failed.
-fn passed(mnemonic: u16, ok: bool) -> u64 {
-    if ok {
-        return 1;
+fn digit(b: u8) -> u64
+    ensures { λ r. ⌜ r < 16 ⌝ }
+{
+    if b < b'a' {
+        (b % 16) as u64
+    } else {
+        ((b % 16 + 9) % 16) as u64
     }
-    put(b"failed ");
+}
+
+// The number of 16 hexadecimal digits at a place of the line.
+fn hex(line: &[u8; 100], at: usize) -> u64
+    requires { ⌜ at ≤ 84 ⌝ }
+{
+    let mut v: u64 = 0;
+    for j in 0..16usize {
+        v = v % 0x1000_0000_0000_0000 * 16 + digit(line[at + j]);
+    }
+    v
+}
+
+fn begins(line: &[u8; 100], mnemonic: u16) -> bool {
     for j in 0..12u8 {
-        let byte = [tables::names::byte(mnemonic, j)];
-        put(&byte);
+        if line[j as usize] != names::byte(mnemonic, j) {
+            return false;
+        }
     }
-    put(b"\n");
-    0
+    true
+}
+
+// The mnemonic with which the line begins; 346, which is none, where there is none.
+fn mnemonic_of(line: &[u8; 100]) -> u16 {
+    for m in 0..346u16 {
+        if begins(line, m) {
+            return m;
+        }
+    }
+    346
 }
 
 // The register at place k: D0, D2 or D4; Q0, Q1 or Q2.
@@ -59,105 +86,96 @@ fn insn_of(mnemonic: u16, count: u8, first: Operand, second: Operand, third: Ope
     }
 }
 
-// The record of a vector. Shapes from 5 on are refused: for their name, a register, a mix of sizes, and the count.
-fn record(mnemonic: u16, shape: u64, v: u64, quad: bool) -> Insn {
+// The record of a shape: copy, shift, number, float; three registers with one out of range, of two sizes, with the count 2; or three registers.
+fn record(mnemonic: u16, shape: u8, v: u64, quad: bool) -> Insn {
     let a = register(quad, 0);
     let b = register(quad, 1);
     let c = register(quad, 2);
+    let number = Operand::Imm(immediates::signed::signed_of(v));
     match shape {
-        1 => insn_of(mnemonic, 2, a, b, Operand::Absent),
-        2 => insn_of(mnemonic, 3, a, b, Operand::Imm(signed_of(v))),
-        3 => insn_of(mnemonic, 2, a, Operand::Imm(signed_of(v)), Operand::Absent),
-        4 => insn_of(mnemonic, 2, a, Operand::Float(float(v)), Operand::Absent),
-        6 => insn_of(mnemonic, 3, Operand::D(32), b, c),
-        7 => insn_of(mnemonic, 3, a, register(!quad, 1), c),
-        8 => insn_of(mnemonic, 2, a, b, c),
+        b'c' => insn_of(mnemonic, 2, a, b, Operand::Absent),
+        b's' => insn_of(mnemonic, 3, a, b, number),
+        b'n' => insn_of(mnemonic, 2, a, number, Operand::Absent),
+        b'f' => insn_of(mnemonic, 2, a, Operand::Float(float(v)), Operand::Absent),
+        b'D' => insn_of(mnemonic, 3, Operand::D(32), b, c),
+        b'Q' => insn_of(mnemonic, 3, a, register(!quad, 1), c),
+        b'2' => insn_of(mnemonic, 2, a, b, c),
         _ => insn_of(mnemonic, 3, a, b, c),
     }
 }
 
-// A file with the words of the target and the sources in both halves of Q0, Q1 and Q2.
-fn start(pair: u64) -> [u64; 32] {
-    let pairs = vectors::SOURCES;
-    let at = (pair % 7) as usize;
+// A file with the words in both halves of Q0, Q1 and Q2.
+fn start(d: u64, n: u64, m: u64) -> [u64; 32] {
     let mut file = [0x5555_5555_5555_5555u64; 32];
-    file[0] = vectors::OLD;
-    file[1] = vectors::OLD;
-    file[2] = pairs[at][0];
-    file[3] = pairs[at][0];
-    file[4] = pairs[at][1];
-    file[5] = pairs[at][1];
+    file[0] = d;
+    file[1] = d;
+    file[2] = n;
+    file[3] = n;
+    file[4] = m;
+    file[5] = m;
     file
 }
 
 fn same(a: [u64; 32], b: [u64; 32]) -> bool {
-    let mut k = 0;
-    while k < 32 {
+    for k in 0..32usize {
         if a[k] != b[k] {
             return false;
         }
-        k += 1;
     }
     true
 }
 
-// Whether a step has the number, 0 for done, and leaves the file `after`.
+// Whether a step has the refusal's number, 0 for done, and leaves the file `after`.
 fn steps(file: [u64; 32], i: Insn, number: u8, after: [u64; 32]) -> bool {
     let s = machine::step_insn(file, i);
     let outcome = s.outcome;
     let left = s.file;
-    match outcome {
-        Outcome::Done => {
-            if number == 0 {
-                same(left, after)
-            } else {
-                false
-            }
-        }
-        Outcome::Refused(f) => {
-            if insn::refusal_number(f) == number {
-                same(left, after)
-            } else {
-                false
-            }
-        }
+    let got = match outcome {
+        Outcome::Done => 0,
+        Outcome::Refused(f) => insn::refusal_number(f),
+    };
+    if got != number {
+        return false;
     }
+    same(left, after)
 }
 
-// One vector, on doublewords or on quadwords: 1 if it passed.
-fn run(row: [u64; 5], quad: bool) -> u64 {
-    let mnemonic = (row[0] % 65536) as u16;
-    let shape = row[1];
-    let i = record(mnemonic, shape, row[3], quad);
-    let file = start(row[2]);
-    if 5 <= shape {
-        return passed(mnemonic, steps(file, i, 10, file));
+// Whether the line's vector passes, on doublewords or on quadwords. The shapes before the small letters are refused.
+fn passes(line: &[u8; 100], mnemonic: u16, quad: bool) -> bool {
+    let shape = line[13];
+    let i = record(mnemonic, shape, hex(line, 15), quad);
+    let file = start(hex(line, 32), hex(line, 49), hex(line, 66));
+    if shape < b'a' {
+        return steps(file, i, 10, file);
     }
+    let result = hex(line, 83);
     let mut after = file;
-    after[0] = row[4];
+    after[0] = result;
     if quad {
-        after[1] = row[4];
+        after[1] = result;
     }
-    passed(mnemonic, steps(file, i, 0, after))
+    steps(file, i, 0, after)
 }
 
-fn run_all() -> u64 {
-    let rows = vectors::ROWS;
-    let mut sum: u64 = 0;
-    for k in 0..165usize {
-        let row = rows[k];
-        sum = std::num::wrapping_add_u64(sum, run(row, false));
-        sum = std::num::wrapping_add_u64(sum, run(row, true));
+// 1 for a line whose vector passes both ways; else 0, and the line is printed.
+fn run(line: &[u8; 100]) -> u64 {
+    let mnemonic = mnemonic_of(line);
+    if passes(line, mnemonic, false) {
+        if passes(line, mnemonic, true) {
+            return 1;
+        }
     }
-    sum
+    put(b"failed ");
+    put(line);
+    0
 }
 
 // Whether a mnemonic has a meaning with some shape of operands.
 fn has_meaning(mnemonic: u16) -> bool {
-    let file = start(0);
-    for shape in 0..5u64 {
-        let v = if shape == 4 { 128 } else { 1 };
-        if !steps(file, record(mnemonic, shape, v, false), 10, file) {
+    let shapes = [b'r', b'c', b's', b'n', b'f'];
+    let file = start(0, 1, 2);
+    for k in 0..5usize {
+        if !steps(file, record(mnemonic, shapes[k], 64, false), 10, file) {
             return true;
         }
     }
@@ -175,7 +193,17 @@ fn count_meanings() -> u64 {
 }
 
 fn main() {
-    put_line(b"passed ", run_all());
-    put_line(b"of ", 2 * 165);
+    let mut line = [0u8; 100];
+    let mut read: u64 = 0;
+    let mut passed: u64 = 0;
+    for _ in 0..1000u16 {
+        if io::read_full(STDIN_FILENO, &mut line) < 100 {
+            break;
+        }
+        read = std::num::wrapping_add_u64(read, 1);
+        passed = std::num::wrapping_add_u64(passed, run(&line));
+    }
+    put_line(b"vectors ", read);
+    put_line(b"passed ", passed);
     put_line(b"names with a meaning ", count_meanings());
 }

@@ -6,13 +6,13 @@ use Rattle.machine_test.proofs.has_meaning.Statement.{statement}
 use Rattle.machine_test.proofs.has_meaning.Tie as tie
 
 abbrev Inv-loop : tie.InvT-loop
-Inv-loop mnemonic file shape₀ shape = shape ≤ 5
+Inv-loop mnemonic shapes file k₀ k = k ≤ 5
 
 abbrev μ-loop : tie.MeasureT-loop
-μ-loop mnemonic file shape₀ shape = 5 - shape
+μ-loop mnemonic shapes file k₀ k = 5 - k
 
 pub has-meaning-spec : {M : Type 1} → statement M
 has-meaning-spec =
     tie.close
-    (tie.spec Inv-loop μ-loop (λ c κs. search needs) (λ c. search needs) (λ c κs. search needs) (λ c κs. search needs) (λ c. search needs)
-    (λ c. search needs) (λ c. search needs) (λ c. search needs) (λ c. search needs))
+    (tie.spec Inv-loop μ-loop (λ c κs. search needs) (λ c. search needs) (λ c. search needs) (λ c κs. search needs) (λ c κs. search needs)
+    (λ c. search needs) (λ c. search needs) (λ c. search needs) (λ c. search needs) (λ c. search needs))

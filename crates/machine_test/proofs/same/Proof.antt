@@ -1,12 +1,12 @@
 -- `machine_test::same` is safe and ends.
 -- Assumes nothing.
-use Prim.Native.Nat.{_-_}
+use Prim.Native.Nat.{_≤_, _-_}
 use borrow.Author.Needs.{needs}
 use Rattle.machine_test.proofs.same.Statement.{statement}
 use Rattle.machine_test.proofs.same.Tie as tie
 
 abbrev Inv-loop : tie.InvT-loop
-Inv-loop a b k₀ k = Unit
+Inv-loop a b k₀ k = k ≤ 32
 
 abbrev μ-loop : tie.MeasureT-loop
 μ-loop a b k₀ k = 32 - k
