@@ -58,8 +58,8 @@ fn said(line: &[u8; 88]) -> [u64; 10] {
 
 // Whether a line's record is written as the line says; on a refusal the pair stays as it was.
 fn agrees(line: &[u8; 88]) -> bool {
-    let hw1 = field(line, 0, 4);
-    let hw2 = field(line, 5, 4);
+    let hw1 = (field(line, 0, 4) % 65536) as u16;
+    let hw2 = (field(line, 5, 4) % 65536) as u16;
     let answer = field(line, 19, 2);
     let record = said(line);
     let mut pair = [7u16; 2];
@@ -68,7 +68,7 @@ fn agrees(line: &[u8; 88]) -> bool {
         return false;
     }
     if answer == 0 {
-        return pair[0] as u64 == hw1 && pair[1] as u64 == hw2;
+        return pair[0] == hw1 && pair[1] == hw2;
     }
     pair[0] == 7 && pair[1] == 7
 }
