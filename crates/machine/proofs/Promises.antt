@@ -23,14 +23,17 @@ use Rattle.machine.specs.declared.meanings.Meaning.the-variants.{Does, R
 use Rattle.machine.specs.declared.meanings.Registers.{Registers}
 use Rattle.machine.specs.declared.Outcome.{Outcome}
 use Rattle.machine.specs.declared.Outcome.the-variants.{Done, Refused as Stopped}
-use Rattle.machine.specs.Answers.{outcomeAnswer}
+use Rattle.machine.specs.declared.run.Ran.{Ran}
+use Rattle.machine.specs.Answers.{outcomeAnswer, endingOf}
 use Rattle.machine.specs.File.{File, Good, readD}
 use Rattle.machine.specs.Forms.{Row, groups, rows, formIn, formOf}
 use Rattle.machine.specs.Meaning.{Act, act, registers, acting, meaningIn, meaningOf}
 use Rattle.machine.specs.Operations.{valueOf}
 use Rattle.machine.specs.Step.{effect, stepBy, stepInsn}
-use Rattle.machine.specs.Promises.{FileKept, OnlyTarget, CopyAlias, Listed, Unlisted, QuadWhole, QuadTarget, MeaningsApart, OutcomesApart}
+use Rattle.machine.specs.Run.{Run}
+use Rattle.machine.specs.Promises.{FileKept, OnlyTarget, CopyAlias, Listed, Unlisted, QuadWhole, QuadTarget, MeaningsApart, OutcomesApart, RunsApart, RunKept, GoesOn}
 use Rattle.machine.proofs.Actions.{never, Known, meant}
+use Rattle.machine.proofs.Runs.{run-kept, run-goes-on}
 use Rattle.machine.proofs.Steps.{effect-good, effect-other, quad-whole, quad-target}
 
 -- a step that was taken is an operation's effect
@@ -118,3 +121,22 @@ outcomesApart Done Done f g e = refl
 outcomesApart Done (Stopped y) f g e = never (cc)
 outcomesApart (Stopped x) Done f g e = never (cc)
 outcomesApart (Stopped x) (Stopped y) f g e = ap Stopped (numberedApart x y (cc))
+
+-- and so does an ending
+endings-apart : (x y : Outcome) → endingOf x ≡ endingOf y → x ≡ y
+endings-apart Done Done e = refl
+endings-apart Done (Stopped y) e = never (cc)
+endings-apart (Stopped x) Done e = never (cc)
+endings-apart (Stopped x) (Stopped y) e = ap Stopped (numberedApart x y (cc))
+
+pub runsApart : RunsApart
+runsApart x y f g e =
+    let o = endings-apart (x .outcome) (y .outcome) (ap (λ (r : Run). r .ending) e) in
+    let n = ap (λ (r : Run). r .executed) e in
+    ((λ i. record { outcome = o i; executed = n i }), ap (λ (r : Run). r .file) e)
+
+pub runKept : RunKept
+runKept code start budget file = run-kept code start budget file
+
+pub goesOn : GoesOn
+goesOn code start b c file s = run-goes-on code start b c file s

@@ -7,8 +7,10 @@ use Rattle.machine.specs.declared.meanings.Meaning.the-variants.{Does, R
 use Rattle.machine.specs.declared.Outcome.{Outcome}
 use Rattle.machine.specs.declared.Outcome.the-variants.{Done, Refused as Stopped}
 use Rattle.machine.specs.declared.Stepped.{Stepped}
+use Rattle.machine.specs.declared.run.Ran.{Ran}
 use Rattle.machine.specs.File.{File}
 use Rattle.machine.specs.Meaning.{Act, act}
+use Rattle.machine.specs.Run.{Ending, done, stopped, Run}
 
 abbrev pub meaningAnswer : Meaning → Answer Act
 meaningAnswer (Does op r) = accepted (act op r)
@@ -20,3 +22,11 @@ outcomeAnswer (Stopped f) file = refused (number f)
 
 abbrev pub steppedAnswer : Stepped → Answer File
 steppedAnswer s = outcomeAnswer (s .outcome) (s .file)
+
+abbrev pub endingOf : Outcome → Ending
+endingOf Done = done
+endingOf (Stopped f) = stopped (number f)
+
+-- a run's answer, with the file that it leaves
+abbrev pub ranOf : Ran → File → Run
+ranOf r file = record { ending = endingOf (r .outcome); executed = r .executed; file = file }

@@ -1,11 +1,11 @@
 -- Promises beyond the contracts; proofs/Promises.antt proves each under its name.
 -- Assumes nothing.
 use mathlib.Core.Bool.{Bool, true, false}
-use mathlib.Core.List.{map}
+use mathlib.Core.List.{List, map}
 use mathlib.Core.Logic.{_≢_}
 use mathlib.Core.Path.{_≡_}
 use Prim.Native.Nat.{ℕ, zero, suc, _+_, _*_, _<_}
-use lib.ListN.{length}
+use lib.ListN.{length, drop}
 use Rattle.laws.specs.Answer.{accepted, refused}
 use Rattle.laws.specs.Choice.{choose}
 use Rattle.insn.specs.declared.Insn.{Insn}
@@ -14,11 +14,13 @@ use Rattle.fields.specs.Registers.{bits, vecBits}
 use Rattle.machine.specs.declared.meanings.Meaning.{Meaning}
 use Rattle.machine.specs.declared.operations.Operation.{Operation}
 use Rattle.machine.specs.declared.Outcome.{Outcome}
-use Rattle.machine.specs.Answers.{meaningAnswer, outcomeAnswer}
+use Rattle.machine.specs.declared.run.Ran.{Ran}
+use Rattle.machine.specs.Answers.{meaningAnswer, outcomeAnswer, ranOf}
 use Rattle.machine.specs.File.{File, Good, readD, readQ, writeQ}
 use Rattle.machine.specs.Forms.{Row, rows}
 use Rattle.machine.specs.Meaning.{registers, meaningOf}
 use Rattle.machine.specs.Operations.{valueOf, Sized}
+use Rattle.machine.specs.Run.{stopped, after, runOf, steps}
 use Rattle.machine.specs.Step.{effect, stepInsn}
 
 -- a step keeps the file: 32 numbers of 64 bits
@@ -72,3 +74,19 @@ MeaningsApart = (x y : Meaning) → meaningAnswer x ≡ meaningAnswer y → x �
 
 abbrev pub OutcomesApart : Type 0
 OutcomesApart = (x y : Outcome) (f g : File) → outcomeAnswer x f ≡ outcomeAnswer y g → x ≡ y
+
+abbrev pub RunsApart : Type 0
+RunsApart = (x y : Ran) (f g : File) → ranOf x f ≡ ranOf y g → (x ≡ y) × (f ≡ g)
+
+-- however a run ends, it leaves the file of the machine steps that it counts
+abbrev pub RunKept : Type 0
+RunKept =
+    (code : List ℕ) (start budget : ℕ) (file : File)
+    → let r = runOf code start file budget in steps (r .executed) (drop (2 * start) code) file ≡ accepted (r .file)
+
+-- where a budget was used up, a later call from that pair goes on
+abbrev pub GoesOn : Type 0
+GoesOn =
+    (code : List ℕ) (start b c : ℕ) (file : File)
+    → let r = runOf code start file b in r .ending ≡ stopped 15
+    → runOf code start file (b + c) ≡ after (r .executed) (runOf code (start + r .executed) (r .file) c)

@@ -1,4 +1,4 @@
-// The register machine: one instruction on a file of 32 doublewords.
+// The register machine: one instruction on a file of 32 doublewords, and runs of pairs.
 ghost use mathlib.Core.Path.{_≡_};
 ghost use Rattle.machine.specs.Answers.{steppedAnswer};
 ghost use Rattle.machine.specs.Step.{Within, effect, stepInsn, stepPair, fileAfter};
@@ -12,6 +12,7 @@ use operations::Operation;
 pub mod forms;
 pub mod meanings;
 pub mod operations;
+pub mod run;
 
 // How a step ended.
 pub enum Outcome {

@@ -1,0 +1,56 @@
+-- `machine::run::run` meets its contract.
+-- Assumes nothing.
+use mathlib.Core.Path.{_≡_, refl, sym, ap, subst, _∙_}
+use Prim.Native.Nat.{ℕ, _*_}
+use native.Mathlib.Omega.{arith}
+use borrow.Author.Needs.{needs}
+use lib.ListN.{length, drop}
+use Rattle.laws.specs.Answer.{accepted}
+use Rattle.machine.specs.Answers.{ranOf}
+use Rattle.machine.specs.Run.{Run, runPairs, runOf, steps}
+use Rattle.machine.proofs.Runs.{odd-code, other-file, past-end, runs, counted}
+use Rattle.machine.proofs.run.run.Statement.{statement}
+use Rattle.machine.proofs.run.run.Tie as tie
+
+returns : tie.Need-returns
+unfolding steps
+returns c =
+    let a = c .before .before .before .args in
+    (sym (odd-code (a .code .now) (a .start) (a .file .now) (a .budget) (c .if1 .taken)), refl)
+
+returns-2 : tie.Need-returns-2
+unfolding steps
+returns-2 c =
+    let a = c .before .before .before .before .args in
+    (sym (other-file (a .code .now) (a .start) (a .file .now) (a .budget) (omega arith) (c .if2 .taken)), refl)
+
+returns-3 : tie.Need-returns-3
+unfolding steps
+returns-3 c =
+    let a = c .before .before .before .before .before .args in
+    (sym (past-end (a .code .now) (a .start) (a .file .now) (a .budget) (omega arith) (omega arith) (c .if3 .taken)), refl)
+
+returns-4 : tie.Need-returns-4
+returns-4 c =
+    let s = c .before .before .before in
+    let g = s .before .before .before in
+    let a = g .before .before .before .before .before .before .before .before .args in
+    let e : ranOf (g .go .result .ran) (s .store .last .0) ≡ runPairs (drop (2 * a .start) (a .code .now)) (a .budget) (a .file .now) =
+    rw (s .store .ensures) (g .go .ensures ∙ ap (runPairs (drop (2 * a .start) (a .code .now)) (a .budget)) (g .before .load .ensures)) in (
+      e ∙ sym (runs (a .code .now) (a .start) (a .file .now) (a .budget) (omega arith) (omega arith) (omega arith)),
+      subst (λ (r : Run). steps (r .executed) (drop (2 * a .start) (a .code .now)) (a .file .now) ≡ accepted (r .file)) (sym e)
+          (counted (drop (2 * a .start) (a .code .now)) (a .budget) (a .file .now)),
+    )
+
+pub run-spec : {M : Type 1} → statement M
+run-spec =
+    tie.close
+    (tie.spec
+    returns
+    returns-2
+    returns-3
+    (λ c κs. search needs)
+    (λ c κs. search needs)
+    (λ c κs. search needs)
+    (λ c. search needs)
+    returns-4)
