@@ -27,6 +27,10 @@ after-none r = rw (zero-add (r .executed))
 pub after-after : (j k : ℕ) (r : Run) → after j (after k r) ≡ after (j + k) r
 after-after j k r = let e : j + (k + r .executed) ≡ j + k + r .executed = omega arith in rw e
 
+-- a run that ends where the loop does, with the pairs that it has executed
+pub halts : {x whole r q : Run} (k n : ℕ) → x ≡ after k r → k ≡ n → q ≡ r → after n q ≡ whole → x ≡ whole
+halts k n e f g h = e ∙ (λ i. after (f i) (sym g i)) ∙ h
+
 one-add : (n : ℕ) → 1 + n ≡ suc n
 one-add n = omega arith
 

@@ -72,9 +72,10 @@ fn go(code: &[u16], start: usize, file: [u64; 32], budget: u64) -> Halt
         }
         let stepped = step(f, code[2 * at], code[2 * at + 1]);
         let outcome = stepped.outcome;
+        let next = stepped.file;
         match outcome {
             Outcome::Done => {
-                f = stepped.file;
+                f = next;
             }
             Outcome::Refused(r) => return halted(Outcome::Refused(r), budget - left, f),
         }
@@ -107,7 +108,8 @@ pub fn run(code: &[u16], start: u64, file: &mut [u64], budget: u64) -> Ran
             executed: 0,
         };
     }
-    let end = go(code, start as usize, load(file), budget);
+    let before = load(file);
+    let end = go(code, start as usize, before, budget);
     let after = end.file;
     store(file, after);
     end.ran

@@ -9,7 +9,7 @@ use Rattle.laws.specs.Answer.{accepted, refused}
 use Rattle.insn.specs.Refusals.{number}
 use Rattle.machine.specs.Step.{stepPair}
 use Rattle.machine.specs.Run.{after, runPairs}
-use Rattle.machine.proofs.Runs.{after-none, ended, spent, stops, turned}
+use Rattle.machine.proofs.Runs.{after-none, halts, ended, spent, stops, turned}
 use Rattle.machine.proofs.run.go.Statement.{statement}
 use Rattle.machine.proofs.run.go.Tie as tie
 
@@ -28,21 +28,24 @@ loop-holds c =
     (search needs, omega arith, rw e (after-none (runPairs (drop (2 * a .start) (a .code .now)) (a .budget) (a .file))))
 
 returns : tie.Need-returns Inv-loop μ-loop
-returns c = let b = c .before .before .before in let l = b .loop in let a = b .before .before .args in
-    c .halted .ensures ∙ ap (after (a .budget - l .left)) (sym (spent (a .code .now) (l .at) (l .f) (l .left) (omega arith) (c .before .if1 .taken))) ∙ l .inv .2
+returns c =
+    let b = c .before .before .before in
+    let l = b .loop in
+    let a = b .before .before .args in
+    halts _ (a .budget - l .left) (c .halted .ensures) (omega arith)
+    (spent (a .code .now) (l .at) (l .f) (l .left) (omega arith) (omega arith)) (l .inv .2)
 
 returns-2 : tie.Need-returns-2 Inv-loop μ-loop
 returns-2 c =
-    let s = c .before .before .before .before in
+    let s = c .before .before .before .before .before in
     let b = s .before .before .before .before in
     let l = b .before .loop in
     let a = b .before .before .before .args in
     let o = c .before .before .outcome .given in
     let e : stepPair (getD (a .code .now) (2 * l .at) 0) (getD (a .code .now) (2 * l .at + 1) 0) (l .f) ≡ refused (number (o .0 .0)) =
     sym (s .step .ensures .0) ∙ rw (o .1) in
-    c .halted2 .ensures
-    ∙ ap (after (a .budget - l .left)) (sym (stops (a .code .now) (l .at) (l .f) (l .left) (number (o .0 .0)) (omega arith) (omega arith) e))
-    ∙ l .inv .2
+    halts _ (a .budget - l .left) (c .halted2 .ensures) (omega arith)
+    (stops (a .code .now) (l .at) (l .f) (l .left) (number (o .0 .0)) (omega arith) (omega arith) e) (l .inv .2)
 
 loop-again : tie.Need-loop-again Inv-loop μ-loop
 loop-again c =
@@ -51,7 +54,7 @@ loop-again c =
     let l = b .before .loop in
     let a = b .before .before .before .args in
     let e : stepPair (getD (a .code .now) (2 * l .at) 0) (getD (a .code .now) (2 * l .at + 1) 0) (l .f) ≡ accepted (s .step .result .file) =
-    sym (s .step .ensures .0) ∙ rw (c .before .enum-told .given .1) in (
+    sym (s .step .ensures .0) ∙ rw (c .enum-told .given .1) in (
       omega arith,
       omega arith,
       turned (a .code .now) (l .at) (l .f) (l .left) (a .budget) (s .step .result .file) (omega arith) (omega arith) (omega arith) e
@@ -59,8 +62,12 @@ loop-again c =
     )
 
 returns-3 : tie.Need-returns-3 Inv-loop μ-loop
-returns-3 c = let b = c .before .before in let l = b .loop in let a = b .before .before .args in
-    c .halted3 .ensures ∙ ap (after (a .budget - l .left)) (sym (ended (a .code .now) (l .at) (l .f) (l .left) (omega arith) (omega arith))) ∙ l .inv .2
+returns-3 c =
+    let b = c .before .before in
+    let l = b .loop in
+    let a = b .before .before .args in
+    halts _ (a .budget - l .left) (c .halted3 .ensures) (omega arith)
+    (ended (a .code .now) (l .at) (l .f) (l .left) (omega arith) (omega arith)) (l .inv .2)
 
 pub go-spec : {M : Type 1} → statement M
 go-spec =

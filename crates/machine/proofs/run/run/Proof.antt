@@ -28,15 +28,16 @@ returns-3 : tie.Need-returns-3
 unfolding steps
 returns-3 c =
     let a = c .before .before .before .before .before .args in
-    (sym (past-end (a .code .now) (a .start) (a .file .now) (a .budget) (omega arith) (omega arith) (c .if3 .taken)), refl)
+    (sym (past-end (a .code .now) (a .start) (a .file .now) (a .budget) (omega arith) (omega arith) (omega arith)), refl)
 
 returns-4 : tie.Need-returns-4
 returns-4 c =
     let s = c .before .before .before in
     let g = s .before .before .before in
     let a = g .before .before .before .before .before .before .before .before .args in
+    let k : s .store .last .0 ≡ g .go .result .file = s .store .ensures in
     let e : ranOf (g .go .result .ran) (s .store .last .0) ≡ runPairs (drop (2 * a .start) (a .code .now)) (a .budget) (a .file .now) =
-    rw (s .store .ensures) (g .go .ensures ∙ ap (runPairs (drop (2 * a .start) (a .code .now)) (a .budget)) (g .before .load .ensures)) in (
+    rw k (g .go .ensures ∙ ap (runPairs (drop (2 * a .start) (a .code .now)) (a .budget)) (g .before .load .ensures)) in (
       e ∙ sym (runs (a .code .now) (a .start) (a .file .now) (a .budget) (omega arith) (omega arith) (omega arith)),
       subst (λ (r : Run). steps (r .executed) (drop (2 * a .start) (a .code .now)) (a .file .now) ≡ accepted (r .file)) (sym e)
           (counted (drop (2 * a .start) (a .code .now)) (a .budget) (a .file .now)),
