@@ -2,6 +2,7 @@
 #ifndef BODLIXO_H
 #define BODLIXO_H
 
+#include <stddef.h>
 #include <stdint.h>
 
 /* Every function answers 0, or the number of the refusal.
@@ -16,5 +17,11 @@ uint32_t bodlixo_read(uint16_t hw1, uint16_t hw2, uint32_t address, uint64_t rec
 /* Writes a record as a pair, whatever its address and mark. On a refusal the pair is untouched. A word too large for
    its field stands for a value that no pair has; the bits of a not-a-number stand for a not-a-number. */
 uint32_t bodlixo_write(const uint64_t record[10], uint16_t pair[2]);
+
+/* Runs the pairs of `len` halfwords, from the pair `start` on, at most `budget` of them, on a file of 32 doublewords.
+   `*executed` is always set: the pairs executed, whose effect the file has. After 15 a call from start + *executed
+   goes on. */
+uint32_t bodlixo_run(const uint16_t *code, size_t len, uint64_t start, uint64_t *file, size_t file_len, uint64_t budget,
+                     uint64_t *executed);
 
 #endif

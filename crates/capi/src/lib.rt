@@ -1,12 +1,14 @@
 // The C boundary; include/bodlixo.h has the declarations.
 ghost use mathlib.Core.Path.{_≡_};
 ghost use Rattle.decode.specs.Reading.{reading};
-ghost use Rattle.capi.specs.Codes.{codeOf};
+ghost use Rattle.machine.specs.Run.{runOf};
+ghost use Rattle.capi.specs.Codes.{codeOf, endCode};
 ghost use Rattle.encode.specs.Writing.{writing};
 ghost use Rattle.capi.specs.Records.{recordOf};
 ghost use Rattle.capi.specs.Words.{recordAfter, pairAfter};
 use decode::Reading;
 use encode::Writing;
+use machine::Outcome;
 
 mod records;
 mod words;
@@ -40,5 +42,27 @@ pub extern "C" fn bodlixo_write(words: &[u64; 10], pair: &mut [u16; 2]) -> u32
             *pair = [hw1, hw2];
             0
         }
+    }
+}
+
+// Runs the pairs of the code from a start on: 0 when done, or the refusal's number; in any case the pairs executed.
+#[no_mangle]
+pub extern "C" fn bodlixo_run(
+    code: &[u16],
+    start: u64,
+    file: &mut [u64],
+    budget: u64,
+    executed: &mut u64,
+) -> u32
+    ensures code { λ r. ⌜ r ≡ endCode (runOf (now (code .entry)) start (now (file .entry)) budget .ending) ⌝ }
+    ensures executed { λ r. ⌜ now (executed .exit) ≡ runOf (now (code .entry)) start (now (file .entry)) budget .executed ⌝ }
+    ensures file { λ r. ⌜ now (file .exit) ≡ runOf (now (code .entry)) start (now (file .entry)) budget .file ⌝ }
+{
+    let ran = machine::run::run(code, start, file, budget);
+    *executed = ran.executed;
+    let outcome = ran.outcome;
+    match outcome {
+        Outcome::Done => 0,
+        Outcome::Refused(f) => insn::refusal_number(f) as u32,
     }
 }

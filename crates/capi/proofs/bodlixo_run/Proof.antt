@@ -1,0 +1,28 @@
+-- `capi::bodlixo_run` meets its contract.
+-- Assumes nothing.
+use mathlib.Core.Path.{_≡_, sym, ap, _∙_}
+use borrow.Author.Needs.{needs}
+use Rattle.machine.specs.declared.Outcome.{Outcome}
+use Rattle.machine.specs.Answers.{endingOf}
+use Rattle.machine.specs.Run.{Run}
+use Rattle.capi.specs.Codes.{endCode}
+use Rattle.capi.proofs.bodlixo_run.Statement.{statement}
+use Rattle.capi.proofs.bodlixo_run.Tie as tie
+
+returns : tie.Need-returns
+returns c =
+    let e = c .before .before .before .before .run .ensures .0 in
+    let o = ap (λ (x : Outcome). endCode (endingOf x)) (c .enum-told .given .1) in
+    (sym o ∙ ap (λ (r : Run). endCode (r .ending)) e, (ap (λ (r : Run). r .executed) e, ap (λ (r : Run). r .file) e))
+
+returns-2 : tie.Need-returns-2
+returns-2 c =
+    let e = c .before .before .before .before .before .before .run .ensures .0 in
+    let o = ap (λ (x : Outcome). endCode (endingOf x)) (c .before .before .outcome .given .1) in
+    (c .refusal-number .ensures ∙ sym o ∙ ap (λ (r : Run). endCode (r .ending)) e, (ap (λ (r : Run). r .executed) e, ap (λ (r : Run). r .file) e))
+
+pub bodlixo-run-spec : {M : Type 1} → statement M
+bodlixo-run-spec =
+    tie.close
+    (tie.spec (λ c κs. search needs) (λ c. search needs) (λ c. search needs) (λ c κs. search needs) (λ c. search needs) (λ c. search needs) returns
+    (λ c. search needs) returns-2)
