@@ -1,5 +1,6 @@
 // Runs worked vectors through the machine, each on doublewords and on both halves of quadwords, and prints how many passed.
-// A line of the input is a vector: mnemonic, shape, number, old target, first source, second source, result.
+// A line of the input that begins with # is text. Any other is a space and a vector: mnemonic, shape, number, old target,
+// first source, second source, result, and then how the result was worked.
 ghost use Prim.Native.Nat.{_<_, _≤_};
 use insn::Insn;
 use insn::Mark;
@@ -167,6 +168,7 @@ fn run(line: &[u8; 100]) -> u64 {
     }
     put(b"failed ");
     put(line);
+    put(b"\n");
     0
 }
 
@@ -192,16 +194,41 @@ fn count_meanings() -> u64 {
     sum
 }
 
-fn main() {
+// Reads past the end of a line.
+fn skip() {
+    let mut byte = [0u8; 1];
+    for _ in 0..1000u16 {
+        if io::read_full(STDIN_FILENO, &mut byte) < 1 {
+            return;
+        }
+        if byte[0] == b'\n' {
+            return;
+        }
+    }
+}
+
+// Reads a vector and runs it: 1 where it passes, else 0.
+fn vector() -> u64 {
     let mut line = [0u8; 100];
+    if io::read_full(STDIN_FILENO, &mut line) < 100 {
+        return 0;
+    }
+    run(&line)
+}
+
+fn main() {
+    let mut mark = [0u8; 1];
     let mut read: u64 = 0;
     let mut passed: u64 = 0;
     for _ in 0..1000u16 {
-        if io::read_full(STDIN_FILENO, &mut line) < 100 {
+        if io::read_full(STDIN_FILENO, &mut mark) < 1 {
             break;
         }
-        read = std::num::wrapping_add_u64(read, 1);
-        passed = std::num::wrapping_add_u64(passed, run(&line));
+        if mark[0] != b'#' {
+            read = std::num::wrapping_add_u64(read, 1);
+            passed = std::num::wrapping_add_u64(passed, vector());
+        }
+        skip();
     }
     put_line(b"vectors ", read);
     put_line(b"passed ", passed);
