@@ -1,13 +1,19 @@
 //! How fast pairs are stepped beside a plain interpreter: the same pairs on the same registers, in
-//! turns. Ours is the program named by the argument, and the time of its start is taken off.
+//! turns. Ours is the program named by the argument, and the time of its start is taken off. Before
+//! that the two must write the same line, for the rounds that the gate runs too.
 
 use oracle::clock::{beside, ROUNDS};
 use oracle::isa::{FpReg, Operand};
 use oracle::{decode, Report};
 use std::hint::black_box;
-use std::process::{Command, ExitCode};
+use std::io::Write;
+use std::process::{Command, ExitCode, Stdio};
 
-include!("../../crates/step_bench/src/cases.rt");
+/// The pairs, and D0 to D31 at the start, as our program reads them.
+const CASES: &str = include_str!("../../crates/step_bench/stdin");
+/// The line that the gate holds our program to, and its rounds.
+const GATE: &str = include_str!("../../crates/step_bench/stdout");
+const GATE_TIMES: &str = include_str!("../../crates/step_bench/args");
 
 /// How often the list of pairs is stepped in one measurement.
 const TIMES: usize = 5_000;
@@ -15,19 +21,27 @@ const TIMES: usize = 5_000;
 fn main() -> ExitCode {
     let program = std::env::args().nth(1).expect("the program that steps pairs");
     let ours = |times: usize| {
-        let output = Command::new(&program).arg(times.to_string()).output();
-        String::from_utf8_lossy(&output.expect("our program runs").stdout).into_owned()
+        let mut command = Command::new(&program);
+        let piped = command.arg(times.to_string()).stdin(Stdio::piped()).stdout(Stdio::piped());
+        let mut child = piped.spawn().expect("our program runs");
+        child.stdin.take().unwrap().write_all(CASES.as_bytes()).expect("it reads the cases");
+        let output = child.wait_with_output().expect("our program ends");
+        String::from_utf8_lossy(&output.stdout).into_owned()
     };
+    let (list, start) = cases();
     let mut report = Report::default();
-    for times in [0, 1, 2, TIMES] {
-        report.expect(ours(times), interpreted(times), || format!("{times} rounds of the list"));
+    let gate = GATE_TIMES.trim().parse().expect("the rounds of the gate");
+    report.expect(GATE.to_owned(), interpreted(&list, start, gate), || "the gate's line".to_owned());
+    for times in [0, 1, 2, gate, TIMES] {
+        let theirs = interpreted(&list, start, times);
+        report.expect(ours(times), theirs, || format!("{times} rounds of the list"));
     }
 
-    let pairs = TIMES * PAIRS.len();
-    let interpret = || drop(black_box(interpreted(TIMES)));
+    let pairs = TIMES * list.len();
+    let interpret = || drop(black_box(interpreted(&list, start, TIMES)));
     let (interpreter, whole) = beside(pairs, interpret, || drop(ours(TIMES)));
-    let (_, start) = beside(pairs, || (), || drop(ours(0)));
-    let ours = whole - start;
+    let (_, begin) = beside(pairs, || (), || drop(ours(0)));
+    let ours = whole - begin;
     println!(
         "speed_step: {pairs} pairs, median of {ROUNDS} rounds: \
          interpreter {interpreter:.1} ns, ours {ours:.1} ns, {:.1} times as fast",
@@ -36,12 +50,24 @@ fn main() -> ExitCode {
     report.status()
 }
 
+/// The pairs of the cases, and the registers at the start.
+fn cases() -> (Vec<[u16; 2]>, [u64; 32]) {
+    let (pairs, registers): (Vec<&str>, Vec<&str>) = CASES.lines().partition(|l| l.contains(' '));
+    let half = |digits| u16::from_str_radix(digits, 16).expect("a halfword");
+    let list = pairs.iter().filter_map(|l| l.split_once(' ')).map(|(a, b)| [half(a), half(b)]);
+    let mut start = [0; 32];
+    for (place, digits) in start.iter_mut().zip(&registers) {
+        *place = u64::from_str_radix(digits, 16).expect("a doubleword");
+    }
+    (list.collect(), start)
+}
+
 /// The line that our program writes.
-fn interpreted(times: usize) -> String {
-    let mut file = START;
+fn interpreted(list: &[[u16; 2]], start: [u64; 32], times: usize) -> String {
+    let mut file = start;
     let mut done = 0;
     for _ in 0..times {
-        for [hw1, hw2] in black_box(PAIRS) {
+        for &[hw1, hw2] in black_box(list) {
             done += usize::from(step(&mut file, hw1, hw2).is_some());
         }
     }

@@ -1,11 +1,11 @@
 // Steps a list of pairs on one file, round after round, for tools/compare to time.
-// The argument says how many rounds; the one line says how many pairs were done and what the registers add up to.
-use cases::PAIRS;
-use cases::START;
+// Standard input has the list, every operation at every width once, and then D0 to D31 at the start: 80 lines of two
+// halfwords and 32 of a doubleword, in hexadecimal. The argument says how many rounds; the one line that is written says
+// how many pairs were done and what the registers add up to.
+ghost use Prim.Native.Nat.{_+_, _<_, _≤_};
+use libc::STDIN_FILENO;
 use libc::STDOUT_FILENO;
 use machine::Outcome;
-
-mod cases;
 
 struct Tally {
     done: u64,
@@ -26,13 +26,58 @@ fn decimal(digits: &[u8; 8]) -> u64 {
     value
 }
 
+fn digit(b: u8) -> u64
+    ensures { λ r. ⌜ r < 16 ⌝ }
+{
+    if b < b'a' {
+        (b % 16) as u64
+    } else {
+        ((b % 16 + 9) % 16) as u64
+    }
+}
+
+// The number of n hexadecimal digits at a place of the input.
+fn hex(text: &[u8; 1344], at: usize, n: usize) -> u64
+    requires { ⌜ at + n ≤ 1344 ⌝ }
+{
+    let mut value: u64 = 0;
+    let mut i: usize = 0;
+    while i < n {
+        value = value % 0x1000_0000_0000_0000 * 16 + digit(text[at + i]);
+        i += 1;
+    }
+    value
+}
+
+// The list's halfwords.
+fn code_of(text: &[u8; 1344]) -> [u16; 160] {
+    let mut code = [0u16; 160];
+    let mut k: usize = 0;
+    while k < 160 {
+        code[k] = (hex(text, 5 * k, 4) % 65536) as u16;
+        k += 1;
+    }
+    code
+}
+
+// The registers at the start.
+fn file_of(text: &[u8; 1344]) -> [u64; 32] {
+    let mut file = [0u64; 32];
+    let mut k: usize = 0;
+    while k < 32 {
+        file[k] = hex(text, 800 + 17 * k, 16);
+        k += 1;
+    }
+    file
+}
+
 // Every pair of the list once.
-fn round(before: Tally) -> Tally {
+fn round(code: &[u16; 160], before: Tally) -> Tally {
     let mut done = before.done;
     let mut file = before.file;
     let mut i: usize = 0;
     while i < 80 {
-        let stepped = machine::step(file, PAIRS[i][0], PAIRS[i][1]);
+        let stepped = machine::step(file, code[2 * i], code[2 * i + 1]);
         let outcome = stepped.outcome;
         file = stepped.file;
         if let Outcome::Done = outcome {
@@ -43,14 +88,11 @@ fn round(before: Tally) -> Tally {
     Tally { done, file }
 }
 
-fn rounds(n: u64) -> Tally {
-    let mut tally = Tally {
-        done: 0,
-        file: START,
-    };
+fn rounds(n: u64, code: &[u16; 160], file: [u64; 32]) -> Tally {
+    let mut tally = Tally { done: 0, file };
     let mut i: u64 = 0;
     while i < n {
-        tally = round(tally);
+        tally = round(code, tally);
         i += 1;
     }
     tally
@@ -69,7 +111,10 @@ fn sum(file: [u64; 32]) -> u64 {
 fn main() {
     let mut digits = [0u8; 8];
     os::arg(1, &mut digits);
-    let tally = rounds(decimal(&digits));
+    let mut text = [0u8; 1344];
+    io::read_full(STDIN_FILENO, &mut text);
+    let code = code_of(&text);
+    let tally = rounds(decimal(&digits), &code, file_of(&text));
     let file = tally.file;
     io::print_decimal(STDOUT_FILENO, tally.done);
     io::write_all(STDOUT_FILENO, b" pairs, registers ");

@@ -6,14 +6,14 @@ use Rattle.step_bench.proofs.round.Statement.{statement}
 use Rattle.step_bench.proofs.round.Tie as tie
 
 abbrev Inv-loop : tie.InvT-loop
-Inv-loop done₀ file₀ i₀ done file i = i ≤ 80
+Inv-loop code done₀ file₀ i₀ done file i = i ≤ 80
 
 abbrev μ-loop : tie.MeasureT-loop
-μ-loop done₀ file₀ i₀ done file i = 80 - i
+μ-loop code done₀ file₀ i₀ done file i = 80 - i
 
 pub round-spec : {M : Type 1} → statement M
 round-spec =
     tie.close
     (tie.spec Inv-loop μ-loop (λ c. search needs) (λ c. search needs) (λ c. search needs) (λ c. search needs) (λ c. search needs)
-    (λ c. search needs) (λ c. search needs) (λ c κs. search needs) (λ c. search needs) (λ c κs. search needs) (λ c. search needs)
-    (λ c. search needs) (λ c. search needs) (λ c. search needs) (λ c. search needs))
+    (λ c. search needs) (λ c. search needs) (λ c. search needs) (λ c κs. search needs) (λ c. search needs) (λ c κs. search needs)
+    (λ c. search needs) (λ c. search needs) (λ c. search needs) (λ c. search needs) (λ c. search needs))

@@ -6,13 +6,13 @@ use Rattle.step_bench.proofs.rounds.Statement.{statement}
 use Rattle.step_bench.proofs.rounds.Tie as tie
 
 abbrev Inv-loop : tie.InvT-loop
-Inv-loop n tally₀ i₀ tally i = i ≤ n
+Inv-loop n code tally₀ i₀ tally i = i ≤ n
 
 abbrev μ-loop : tie.MeasureT-loop
-μ-loop n tally₀ i₀ tally i = n - i
+μ-loop n code tally₀ i₀ tally i = n - i
 
 pub rounds-spec : {M : Type 1} → statement M
 rounds-spec =
     tie.close
-    (tie.spec Inv-loop μ-loop (λ c. search needs) (λ c κs. search needs) (λ c. search needs) (λ c. search needs) (λ c. search needs)
-    (λ c. search needs))
+    (tie.spec Inv-loop μ-loop (λ c. search needs) (λ c κs. search needs) (λ c. search needs) (λ c. search needs)
+    (λ c. search needs) (λ c. search needs))
