@@ -1,12 +1,10 @@
 -- The promises of specs/Promises.antt.
 -- Assumes nothing.
-use mathlib.Core.Path.{_≡_, refl, sym, ap, subst, _∙_}
+use mathlib.Core.Path.{_≡_, refl, ap, subst}
 use mathlib.Core.Bool.{Bool, true, false, Bool·beq}
 use mathlib.Core.List.{List, [], _∷_, map}
-use Prim.Native.Nat.{ℕ, zero, suc}
 use Prim.Native.String.{String}
-use native.Mathlib.Omega.{arith}
-use lib.Bits.{bitOr, or-self}
+use lib.Bits.{or-self}
 use lib.Dec.{eqb}
 use lib.Text.{eqt}
 use Rattle.laws.specs.Answer.{Answer, accepted, refused}
@@ -23,8 +21,7 @@ use Rattle.machine.specs.declared.meanings.Meaning.the-variants.{Does, R
 use Rattle.machine.specs.declared.meanings.Registers.{Registers}
 use Rattle.machine.specs.declared.Outcome.{Outcome}
 use Rattle.machine.specs.declared.Outcome.the-variants.{Done, Refused as Stopped}
-use Rattle.machine.specs.declared.run.Ran.{Ran}
-use Rattle.machine.specs.Answers.{outcomeAnswer, endingOf}
+use Rattle.machine.specs.Answers.{endingOf}
 use Rattle.machine.specs.File.{File, Good, readD}
 use Rattle.machine.specs.Forms.{Row, groups, rows, formIn, formOf}
 use Rattle.machine.specs.Meaning.{Act, act, registers, acting, meaningIn, meaningOf}

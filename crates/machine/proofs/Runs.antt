@@ -1,7 +1,7 @@
 -- Runs: what a turn of the loop does to them, and what they have to do with machine steps.
 -- Assumes nothing.
 use mathlib.Core.Path.{_≡_, refl, sym, _∙_, ap, subst}
-use mathlib.Core.Bool.{Bool, true, false, not}
+use mathlib.Core.Bool.{Bool, true, false}
 use mathlib.Core.List.{List, [], _∷_, _++_}
 use Prim.Native.Nat.{ℕ, zero, suc, _+_, _-_, _*_, _/_, _%_, _≤_, _<_}
 use borrow.Author.Tests.{eqb-true, eqb-false, ltb-true, ltb-false, eq-eqb, ne-eqb, lt-ltb, le-ltb}
@@ -17,7 +17,7 @@ use Rattle.decode.specs.Reading.{reading}
 use Rattle.machine.specs.File.{File}
 use Rattle.machine.specs.Meaning.{Act, act, meaningOf}
 use Rattle.machine.specs.Step.{effect, stepBy, stepRead, stepPair}
-use Rattle.machine.specs.Run.{Ending, done, stopped, Run, atOnce, after, onward, runPairs, runOf, steps}
+use Rattle.machine.specs.Run.{done, stopped, Run, atOnce, after, onward, runPairs, runOf, steps}
 use Rattle.machine.proofs.Actions.{never}
 
 -- no pair before, and some pairs after others

@@ -23,6 +23,7 @@ outcomeAnswer (Stopped f) file = refused (number f)
 abbrev pub steppedAnswer : Stepped → Answer File
 steppedAnswer s = outcomeAnswer (s .outcome) (s .file)
 
+-- how a run ended
 abbrev pub endingOf : Outcome → Ending
 endingOf Done = done
 endingOf (Stopped f) = stopped (number f)

@@ -1,13 +1,13 @@
 -- `machine::run::run` meets its contract.
 -- Assumes nothing.
 use mathlib.Core.Path.{_≡_, refl, sym, ap, subst, _∙_}
-use Prim.Native.Nat.{ℕ, _*_}
+use Prim.Native.Nat.{_*_}
 use native.Mathlib.Omega.{arith}
 use borrow.Author.Needs.{needs}
-use lib.ListN.{length, drop}
+use lib.ListN.{drop}
 use Rattle.laws.specs.Answer.{accepted}
 use Rattle.machine.specs.Answers.{ranOf}
-use Rattle.machine.specs.Run.{Run, runPairs, runOf, steps}
+use Rattle.machine.specs.Run.{Run, runPairs, steps}
 use Rattle.machine.proofs.Runs.{odd-code, other-file, past-end, runs, counted}
 use Rattle.machine.proofs.run.run.Statement.{statement}
 use Rattle.machine.proofs.run.run.Tie as tie

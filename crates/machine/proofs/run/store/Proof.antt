@@ -1,10 +1,10 @@
 -- `machine::run::store` meets its contract.
 -- Assumes nothing.
-use mathlib.Core.Path.{_≡_, refl}
-use Prim.Native.Nat.{ℕ, _-_, _≤_}
+use mathlib.Core.Path.{_≡_}
+use Prim.Native.Nat.{_-_}
 use native.Mathlib.Omega.{arith}
 use borrow.Author.Needs.{needs}
-use lib.ListN.{length, take, length-set}
+use lib.ListN.{length, take}
 use Rattle.machine.proofs.Copies.{more, whole}
 use Rattle.machine.proofs.run.store.Statement.{statement}
 use Rattle.machine.proofs.run.store.Tie as tie
