@@ -1,0 +1,93 @@
+-- A record that is written does, as a pair, what it does as a record: demand 2 over meanings.
+-- Assumes nothing.
+use mathlib.Core.Path.{_≡_, refl, sym, ap, _∙_}
+use mathlib.Core.Bool.{Bool, true, false, not}
+use Prim.Native.Nat.{ℕ}
+use lib.Dec.{eqb}
+use lib.Text.{eqt}
+use borrow.Author.Tests.{eqb-true}
+use Rattle.laws.specs.Answer.{Answer, accepted}
+use Rattle.laws.specs.Choice.{choose}
+use Rattle.insn.specs.declared.Insn.{Insn}
+use Rattle.insn.specs.declared.Mark.{Mark}
+use Rattle.insn.specs.declared.Mark.the-variants.{T1}
+use Rattle.insn.specs.declared.Operand.{Operand}
+use Rattle.insn.specs.declared.Operand.the-variants.{D, Q, S, Imm, Float, Other, Absent}
+use Rattle.insn.specs.Record.{placeAt}
+use Rattle.tables.specs.Names.{names, nameOf, numberOf}
+use Rattle.decode.specs.Operands.{both, insn}
+use Rattle.decode.specs.Reading.{reading}
+use Rattle.encode.specs.Forms.{pair}
+use Rattle.encode.specs.Promises.{ReadsAs}
+use Rattle.encode.specs.Spelling.{Spelling, Held, spelled, sameRegister, isZero, movedName, renamed, canonical}
+use Rattle.encode.specs.Writing.{writing}
+use Rattle.encode.proofs.Canonical.{spelt, as-spelt, as-vmov}
+use Rattle.encode.proofs.Promises.{writtenThenRead}
+use Rattle.encode.proofs.Tests.{wrong, both-true, same-text}
+use Rattle.machine.specs.File.{File}
+use Rattle.machine.specs.Meaning.{meaningOf}
+use Rattle.machine.specs.Step.{stepBy, stepInsn, stepRead, stepPair}
+use Rattle.machine.proofs.Promises.{copyAlias}
+
+same-register : (x y : Operand) → sameRegister x y ≡ true → y ≡ x
+same-register (D m) (D n) e = ap D (sym (eqb-true m n e))
+same-register (D m) (Q n) e = wrong e
+same-register (D m) (S n) e = wrong e
+same-register (D m) (Imm v) e = wrong e
+same-register (D m) (Float x) e = wrong e
+same-register (D m) Other e = wrong e
+same-register (D m) Absent e = wrong e
+same-register (Q m) (Q n) e = ap Q (sym (eqb-true m n e))
+same-register (Q m) (D n) e = wrong e
+same-register (Q m) (S n) e = wrong e
+same-register (Q m) (Imm v) e = wrong e
+same-register (Q m) (Float x) e = wrong e
+same-register (Q m) Other e = wrong e
+same-register (Q m) Absent e = wrong e
+same-register (S m) o e = wrong e
+same-register (Imm v) o e = wrong e
+same-register (Float x) o e = wrong e
+same-register Other o e = wrong e
+same-register Absent o e = wrong e
+
+vmov-name : nameOf (numberOf "vmov") ≡ "vmov"
+unfolding names nameOf numberOf
+vmov-name = refl
+
+-- VSHLL alone has another name where it is read back
+module _ (m : ℕ) (x y z : Operand) (plain : eqt (movedName (nameOf m)) "" ≡ true) where
+  -- the step of a spelling, at any mark
+  abbrev stepOf : Mark → File → Spelling → Answer File
+  stepOf mark file s = stepInsn (spelled s mark 0) file
+
+  three-step : (mark : Mark) (file : File) → stepOf mark file (canonical (spelt m 3 x y z)) ≡ stepInsn (insn m T1 0 3 x y z) file
+  unfolding meaningOf
+  three-step mark file = go (both (eqt (nameOf m) "vorr") (sameRegister y z)) refl
+    where
+      go : (b : Bool) → both (eqt (nameOf m) "vorr") (sameRegister y z) ≡ b
+          → stepOf mark file (canonical (spelt m 3 x y z)) ≡ stepInsn (insn m T1 0 3 x y z) file
+      go true e =
+          let p = both-true (eqt (nameOf m) "vorr") (sameRegister y z) e in
+          let j : Insn = spelled (renamed "vmov" (spelt m 3 x y z)) mark 0 in
+          ap (stepOf mark file) (as-vmov m 3 x y z e)
+          ∙ sym (copyAlias (insn m T1 0 3 x y z) j file (same-text (nameOf m) "vorr" (p .0)) refl (same-register y z (p .1)) vmov-name refl refl refl)
+      go false e = ap (stepOf mark file) (as-spelt m 3 x y z e (rw plain))
+
+  two-step : eqt (nameOf m) "vorr" ≡ false → (mark : Mark) (file : File)
+      → stepOf mark file (canonical (spelt m 2 x y Absent)) ≡ stepInsn (insn m T1 0 2 x y Absent) file
+  unfolding meaningOf
+  two-step other mark file = ap (stepOf mark file) (as-spelt m 2 x y Absent (rw other) (rw plain))
+
+  module _ (hw1 hw2 : ℕ) (held : Held y) (file : File) where
+    pub three-back : writing (insn m T1 0 3 x y z) ≡ accepted (pair hw1 hw2) → stepPair hw1 hw2 file ≡ stepInsn (insn m T1 0 3 x y z) file
+    unfolding placeAt stepRead
+    three-back e =
+        let r = writtenThenRead (insn m T1 0 3 x y z) hw1 hw2 0 held e in
+        ap (λ (a : Answer Insn). stepRead a file) (r .read) ∙ three-step (r .mark) file
+
+    pub two-back : eqt (nameOf m) "vorr" ≡ false → writing (insn m T1 0 2 x y Absent) ≡ accepted (pair hw1 hw2)
+        → stepPair hw1 hw2 file ≡ stepInsn (insn m T1 0 2 x y Absent) file
+    unfolding placeAt stepRead
+    two-back other e =
+        let r = writtenThenRead (insn m T1 0 2 x y Absent) hw1 hw2 0 held e in
+        ap (λ (a : Answer Insn). stepRead a file) (r .read) ∙ two-step other (r .mark) file

@@ -1,0 +1,228 @@
+-- A step of each kind: its pairs are written, and do these operations.
+-- Assumes nothing.
+use mathlib.Core.Path.{_≡_, refl, sym, _∙_, ap}
+use mathlib.Core.Bool.{Bool, true, false}
+use mathlib.Core.Logic.{_≢_}
+use mathlib.Core.List.{List, [], _∷_, _++_}
+use Prim.Native.Nat.{ℕ, zero, suc, _+_, _-_, _*_, _/_, _%_, _^_, _≤_, _<_}
+use native.Mathlib.Nat.{mod-eq-of-lt, lt-of-lt-of-le}
+use native.Mathlib.Omega.{arith}
+use lib.Bits.{bitAnd, bitOr, bitXor, or-zero-l}
+use Prim.Native.String.{String}
+use lib.Dec.{eqb, ltb, lit<}
+use lib.IntN.{ℤ, pos, negsuc}
+use lib.ListN.{length, getD, set, take, length-append}
+use lib.Seq.{take-set-lt, take-set-le, getD-take, getD-set-same, getD-set-other, set-set}
+use lib.Signed.{shrZ}
+use native.Mathlib.Nat.{div-one}
+use borrow.Author.Tests.{eqb-true, eqb-false, ltb-true}
+use Rattle.laws.specs.Choice.{choose}
+use Rattle.laws.proofs.Range.{values, agree}
+use Rattle.insn.specs.declared.Insn.{Insn}
+use Rattle.insn.specs.declared.Operand.{Operand}
+use Rattle.insn.specs.declared.Operand.the-variants.{Q}
+use Rattle.tables.specs.declared.ShiftClass.the-variants as class
+use Rattle.lanes.specs.Lane.{readAs, modulo, laneOf, lanewise, bitsOf, lanesOf}
+use Rattle.lanes.specs.declared.LaneOp.{LaneOp}
+use Rattle.lanes.specs.declared.LaneOp.the-variants.{Add, Sub, Mul, Max, Min, Cgt, Shl, Shr}
+use Rattle.lanes.specs.declared.Sign.{Sign}
+use Rattle.lanes.specs.declared.Width.{Width}
+use Rattle.lanes.specs.declared.Width.the-variants.{B32}
+use Rattle.lanes.proofs.Lanewise.{same, kept}
+use Rattle.lanes.proofs.Promises.{readBack}
+use Rattle.machine.specs.declared.operations.BitOp.{BitOp}
+use Rattle.machine.specs.declared.operations.BitOp.the-variants.{And, Orr, Eor, Orn, Mov, Bsl}
+use Rattle.machine.specs.declared.operations.ConstantOp.the-variants as constant
+use Rattle.machine.specs.declared.operations.Operation.{Operation}
+use Rattle.machine.specs.declared.operations.Operation.the-variants.{Lanes, Bits, Constant}
+use Rattle.machine.specs.declared.forms.Form.{Form}
+use Rattle.machine.specs.File.{File, Good}
+use Rattle.machine.specs.Forms.{widthAt}
+use Rattle.machine.specs.Meaning.{Act, act, registers, repeated, on, countOf, meaningIn}
+use Rattle.machine.specs.Operations.{valueOf, Sized}
+use Rattle.machine.specs.Step.{effect}
+use Rattle.machine.proofs.Actions.{repeated-lt}
+use Rattle.machine.proofs.Steps.{effect-good}
+use Rattle.sheet.specs.declared.steps.Step.{Step}
+use Rattle.sheet.specs.Meaning.{paired, rowsOf, row, signOf, eachLane, inverted}
+use Rattle.sheet.specs.Meaning as sheet
+use Rattle.sheet.specs.Naming.{sized, signed}
+use Rattle.sheet.specs.Pairs.{two, three, number, halfPairs, pairTable, pairsBy}
+use Rattle.sheet.specs.Rules.{bits, Uses, table, usesOf}
+use Rattle.sheet.proofs.Carried.{bits-small, left-carried, right-carried, set-carried}
+use Rattle.sheet.proofs.Constant.{halfActs, half-does, half-few, constant-left}
+use Rattle.sheet.proofs.Doing.{doing, Does, does-append, doing-cons, doing-nil, doing-good}
+use Rattle.sheet.proofs.Each.{each}
+use Rattle.sheet.proofs.Executes.{Is, quad-is, Known, three-executes, copy-executes, shift-executes, number-executes}
+use Rattle.sheet.proofs.Kept.{Kept}
+use Rattle.sheet.proofs.Names.{add-known, sub-known, mul-known, max-known, min-known, greater-known, and-known, orr-known, eor-known, orn-known, bsl-known, left-known, right-known, set-word-known}
+use Rattle.sheet.proofs.Rows.{quad, quad-row, one, paired-length, row-lt}
+
+-- the operations of a step of each kind
+unfoldable pub actTable : Step → ℕ → ℕ → ℕ → ℕ → List (List Act)
+actTable s t a b c =
+    let w = widthAt (s .width) in
+    let sign = signOf (s .sign) in
+    (halfActs (2 * t) (s .low) ++ halfActs (2 * t + 1) (s .high))  -- 0
+    ∷ (quad (Bits Mov) t a a ∷ [])  -- 1
+    ∷ (quad (Lanes Add w) t a b ∷ [])  -- 2
+    ∷ (quad (Lanes Sub w) t a b ∷ [])  -- 3
+    ∷ (quad (Lanes Mul w) t a b ∷ [])  -- 4
+    ∷ (quad (Bits And) t a b ∷ [])  -- 5
+    ∷ (quad (Bits Orr) t a b ∷ [])  -- 6
+    ∷ (quad (Bits Eor) t a b ∷ [])  -- 7
+    ∷ (quad (Constant constant.Mov (repeated B32 0)) 14 14 14 ∷ quad (Bits Orn) t 14 a ∷ [])  -- 8
+    ∷ (quad (Lanes (Shl (s .amount)) w) t a a ∷ [])  -- 9
+    ∷ (choose (eqb (s .amount) 0) (quad (Bits Mov) t a a) (quad (Lanes (Shr sign (s .amount)) w) t a a) ∷ [])  -- 10
+    ∷ (quad (Lanes (Max sign) w) t a b ∷ [])  -- 11
+    ∷ (quad (Lanes (Min sign) w) t a b ∷ [])  -- 12
+    ∷ (quad (Lanes (Cgt sign) w) t b a ∷ [])  -- 13
+    ∷ (quad (Bits Mov) 14 c c ∷ quad (Bits Bsl) 14 a b ∷ quad (Bits Mov) t 14 14 ∷ [])  -- 14
+    ∷ []
+
+unfoldable pub actsBy : ℕ → Step → List Act
+actsBy kind s = getD (actTable s (s .target) (s .a) (s .b) (s .c)) kind []
+
+-- a row as a register
+reg : (r : ℕ) → r < 14 → Is true (Q r) (2 * r)
+reg r h = quad-is r (omega arith)
+
+q14 : Is true (Q 14) (2 * 14)
+q14 = quad-is 14 (lit< tt)
+
+module _ (s : Step) where
+  -- three rows of a name with no constant
+  plain : {name : String} {f : Form} (op : Operation) (x y z : ℕ) → Sized op → Known name f → countOf f ≡ 3
+      → ((a b c : Operand) → meaningIn f a b c ≡ on op a b c) → x < 14 → y < 14 → z < 14 → Does (three name (Q x) (Q y) (Q z) ∷ []) (quad op x y z ∷ [])
+  plain op x y z sized known counted meant hx hy hz =
+      (three-executes (reg x hx) (reg y hy) (reg z hz) op known counted (meant (Q x) (Q y) (Q z)), (sized, tt))
+
+  shifted : Kept (usesOf 10) s → (b : Bool) → eqb (s .amount) 0 ≡ b
+      → Does (choose b (two "vmov" (Q (s .target)) (Q (s .a))) (three (sized (signed "vshr." (s .sign)) (s .width)) (Q (s .target)) (Q (s .a)) (number (s .amount))) ∷ [])
+      (choose b (quad (Bits Mov) (s .target) (s .a) (s .a)) (quad (Lanes (Shr (signOf (s .sign)) (s .amount)) (widthAt (s .width))) (s .target) (s .a) (s .a)) ∷ [])
+  unfolding table
+  shifted p true e = (copy-executes (reg _ (p .target)) (reg _ (p .a)), (tt, tt))
+  shifted p false e =
+      let n = eqb-false (s .amount) 0 e in
+      let h = p .amount in
+      let small = bits-small (s .width) (p .width) in
+      let c = right-carried (s .width) (s .amount) (p .width) (omega arith) (omega arith) in
+      (shift-executes (s .amount) (c .0) (reg _ (p .target)) (reg _ (p .a)) (right-known (s .sign) (s .width) (p .width)) (λ q. (refl, refl)) (omega arith) (c .1), (tt, tt))
+
+  -- the pairs of a step do its operations
+  abbrev Written : ℕ → Type 0
+  Written k = Kept (usesOf k) s → Does (pairsBy k s) (actsBy k s)
+
+  pub written : (k : ℕ) → k < 15 → Written k
+  unfolding pairsBy pairTable actsBy actTable table meaningIn
+  written = each Written 15 (
+    (λ p. let h = p .target in
+        does-append (halfPairs (2 * s .target) (s .low)) _ (halfActs (2 * s .target) (s .low)) _
+        (half-does (2 * s .target) (s .low) (omega arith)) (half-does (2 * s .target + 1) (s .high) (omega arith))),
+    (
+      (λ p. (copy-executes (reg _ (p .target)) (reg _ (p .a)), (tt, tt))),
+      (
+        (λ p. plain (Lanes Add _) _ _ _ tt (add-known _ (p .width)) refl (λ a b c. refl) (p .target) (p .a) (p .b)),
+        (
+          (λ p. plain (Lanes Sub _) _ _ _ tt (sub-known _ (p .width)) refl (λ a b c. refl) (p .target) (p .a) (p .b)),
+          (
+            (λ p. plain (Lanes Mul _) _ _ _ tt (mul-known _ (p .width)) refl (λ a b c. refl) (p .target) (p .a) (p .b)),
+            (
+              (λ p. plain (Bits And) _ _ _ tt and-known refl (λ a b c. refl) (p .target) (p .a) (p .b)),
+              (
+                (λ p. plain (Bits Orr) _ _ _ tt orr-known refl (λ a b c. refl) (p .target) (p .a) (p .b)),
+                (
+                  (λ p. plain (Bits Eor) _ _ _ tt eor-known refl (λ a b c. refl) (p .target) (p .a) (p .b)),
+                  (
+                    (λ p. let c = set-carried 0 (lit< tt) in
+                        (number-executes 0 (c .0) q14 set-word-known (c .1), (repeated-lt B32 0, (three-executes (reg _ (p .target)) q14 (reg _ (p .a)) (Bits Orn) orn-known refl refl, (tt, tt))))),
+                    (
+                      (λ p. let h = p .amount in
+                          let small = bits-small (s .width) (p .width) in
+                          let c = left-carried (s .width) (s .amount) (p .width) (p .amount) in
+                          (shift-executes (s .amount) (c .0) (reg _ (p .target)) (reg _ (p .a)) (left-known (s .width) (p .width)) (λ q. (refl, refl)) (omega arith) (c .1), (tt, tt))),
+                      (
+                        (λ p. shifted p (eqb (s .amount) 0) refl),
+                        (
+                          (λ p. plain (Lanes (Max _) _) _ _ _ tt (max-known (s .sign) _ (p .width)) refl (λ a b c. refl) (p .target) (p .a) (p .b)),
+                          (
+                            (λ p. plain (Lanes (Min _) _) _ _ _ tt (min-known (s .sign) _ (p .width)) refl (λ a b c. refl) (p .target) (p .a) (p .b)),
+                            (
+                              (λ p. plain (Lanes (Cgt _) _) _ _ _ tt (greater-known (s .sign) _ (p .width)) refl (λ a b c. refl) (p .target) (p .b) (p .a)),
+                              (
+                                (λ p. (copy-executes q14 (reg _ (p .c)), (tt, (three-executes q14 (reg _ (p .a)) (reg _ (p .b)) (Bits Bsl) bsl-known refl refl, (tt, (copy-executes (reg _ (p .target)) q14, (tt, tt))))))),
+                                tt,
+                              ),
+                            ),
+                          ),
+                        ),
+                      ),
+                    ),
+                  ),
+                ),
+              ),
+            ),
+          ),
+        ),
+      ),
+    ),
+  )
+
+-- at most twenty pairs
+pub few : (s : Step) (k : ℕ) → k < 15 → length (pairsBy k s) ≤ 20
+unfolding pairsBy pairTable
+few s =
+    let one : 1 ≤ 20 = omega arith in
+    each (λ (k : ℕ). length (pairsBy k s) ≤ 20) 15 (
+      simp length-append (omega (arith, half-few (2 * s .target) (s .low), half-few (2 * s .target + 1) (s .high))),
+      (one, (one, (one, (one, (one, (one, (one, (omega arith, (one, (one, (one, (one, (one, (omega arith, tt)))))))))))))),
+    )
+
+-- one pair, but for kinds 0, 8 and 14
+pub one-pair : (s : Step) (k : ℕ) → k < 15 → k ≢ 0 → k ≢ 8 → k ≢ 14 → length (pairsBy k s) ≡ 1
+unfolding pairsBy pairTable
+one-pair s =
+    let P : ℕ → Type 0 = λ (k : ℕ). k ≢ 0 → k ≢ 8 → k ≢ 14 → length (pairsBy k s) ≡ 1 in
+    each P 15 (
+      (λ a b c. absurd (a refl)),
+      (
+        (λ a b c. refl),
+        (
+          (λ a b c. refl),
+          (
+            (λ a b c. refl),
+            (
+              (λ a b c. refl),
+              (
+                (λ a b c. refl),
+                (
+                  (λ a b c. refl),
+                  (
+                    (λ a b c. refl),
+                    (
+                      (λ a b c. absurd (b refl)),
+                      (
+                        (λ a b c. refl),
+                        (
+                          (λ a b c. refl),
+                          (
+                            (λ a b c. refl),
+                            (
+                              (λ a b c. refl),
+                              (
+                                (λ a b c. refl),
+                                ((λ a b c. absurd (c refl)), tt),
+                              ),
+                            ),
+                          ),
+                        ),
+                      ),
+                    ),
+                  ),
+                ),
+              ),
+            ),
+          ),
+        ),
+      ),
+    )

@@ -1,0 +1,118 @@
+-- The numbers that a sheet's pairs carry: each amount and each byte has a place in its pair.
+-- Assumes nothing.
+use mathlib.Core.Path.{_≡_, refl, sym, ap, _∙_, subst}
+use mathlib.Core.Bool.{Bool, true, false}
+use mathlib.Core.Logic.{_≢_}
+use Prim.Native.Nat.{ℕ, zero, suc, _+_, _-_, _*_, _/_, _%_, _^_, _<_, _≤_}
+use Prim.Native.String.{String}
+use native.Mathlib.Omega.{arith}
+use lib.Dec.{T, eqb, ltb}
+use lib.IntN.{pos}
+use lib.Text.{eqt}
+use borrow.Author.Tests.{lt-ltb, ltb-true, ne-eqb}
+use Rattle.laws.specs.Answer.{Answer, accepted, refused}
+use Rattle.laws.specs.Choice.{choose}
+use Rattle.laws.proofs.Range.{values, agree, agree2}
+use Rattle.insn.specs.declared.Operand.the-variants.{Imm}
+use Rattle.tables.specs.Search.{Found, at, none, firstBelow}
+use Rattle.tables.specs.Modimm.{modimm}
+use Rattle.tables.specs.declared.ShiftClass.{ShiftClass}
+use Rattle.tables.specs.declared.ShiftClass.the-variants.{Right, Left}
+use Rattle.tables.proofs.Search.{all-fail}
+use Rattle.fields.specs.Halfwords.{bit, field}
+use Rattle.immediates.specs.Modified.{constantAt, element, operandIn, needsNonzero}
+use Rattle.immediates.specs.Shifts.{isEscape, codeOf, rightEnd, leftStart}
+use Rattle.immediates.specs.Signed.{signedOf}
+use Rattle.decode.specs.Shift.{forbidden, columnOf}
+use Rattle.encode.specs.Forms.{orNine}
+use Rattle.encode.specs.Modimm as modified
+use Rattle.encode.specs.Modimm.{immediateIn}
+use Rattle.encode.specs.Shift as shift
+use Rattle.encode.specs.Shift.{amountIn}
+use Rattle.sheet.specs.Rules.{bits}
+
+-- a search that one number passes finds a number
+finds : (p : ℕ → Bool) (n t : ℕ) → t < n → p t ≡ true → (u : ℕ) × (orNine (firstBelow n p) ≡ accepted u)
+finds p n t h e = go (firstBelow n p) refl
+  where
+    go : (f : Found) → firstBelow n p ≡ f → (u : ℕ) × (orNine f ≡ accepted u)
+    go (at u) k = (u, refl)
+    go none k = absurd (subst T (sym e ∙ all-fail p n k t h) tt)
+
+-- a left amount below w stands at w + amount
+abbrev leftAt : ℕ → ℕ → Bool
+leftAt c k = choose (ltb k (bits c)) (shift.readsAs Left c (pos k) (bit 6 (bits c + k)) (field 5 0 (bits c + k))) true
+
+left-read : (c k : ℕ) → c < 4 → k < 64 → leftAt c k ≡ true
+unfolding values shift.readsAs forbidden columnOf isEscape codeOf rightEnd leftStart
+left-read = agree2 leftAt (λ (c k : ℕ). true) 4 64 refl
+
+-- the lanes of a width code have at most 64 bits
+pub bits-small : (c : ℕ) → c < 4 → bits c ≤ 64
+unfolding values
+bits-small c h = let e = agree (λ (c : ℕ). ltb (bits c) 65) (λ (c : ℕ). true) 4 refl c h in omega (arith, ltb-true (bits c) 65 e)
+
+pub left-carried : (c k : ℕ) → c < 4 → k < bits c → (t : ℕ) × (amountIn Left c (Imm (pos k)) ≡ accepted t)
+unfolding amountIn
+left-carried c k hc hk =
+    let small = bits-small c hc in
+    finds (λ (t : ℕ). shift.readsAs Left c (pos k) (bit 6 t) (field 5 0 t)) 128 (bits c + k) (omega arith)
+    (rw (lt-ltb k (bits c) hk) at (left-read c k hc (omega arith)))
+
+-- a right amount from 1 to w stands at 2w - amount
+abbrev rightAt : ℕ → ℕ → Bool
+rightAt c k = choose (ltb k (bits c)) (shift.readsAs Right c (pos (suc k)) (bit 6 (2 * bits c - suc k)) (field 5 0 (2 * bits c - suc k))) true
+
+right-read : (c k : ℕ) → c < 4 → k < 64 → rightAt c k ≡ true
+unfolding values shift.readsAs forbidden columnOf isEscape codeOf rightEnd leftStart
+right-read = agree2 rightAt (λ (c k : ℕ). true) 4 64 refl
+
+pub right-carried : (c k : ℕ) → c < 4 → 0 < k → k ≤ bits c → (t : ℕ) × (amountIn Right c (Imm (pos k)) ≡ accepted t)
+unfolding amountIn
+right-carried c zero hc p hk = absurd (let b : ⊥ = omega arith in b)
+right-carried c (suc k) hc p hk =
+    let small = bits-small c hc in
+    finds (λ (t : ℕ). shift.readsAs Right c (pos (suc k)) (bit 6 t) (field 5 0 t)) 128 (2 * bits c - suc k) (omega arith)
+    (rw (lt-ltb k (bits c) hk) at (right-read c k hc (omega arith)))
+
+-- an immediate that one place carries
+module _ (name : String) (v t : ℕ) (integer : eqt name "vmov.f32" ≡ false) (h : t < 8192)
+    (reads : modified.readsAs name (Imm (pos v)) (bit 12 t) (field 11 8 t) (field 7 0 t) ≡ true) where
+  number-carried : (u : ℕ) × (immediateIn name (Imm (pos v)) ≡ accepted u)
+  unfolding immediateIn
+  number-carried =
+      let f = finds (λ (t : ℕ). modified.readsAs name (Imm (pos v)) (bit 12 t) (field 11 8 t) (field 7 0 t)) 8192 t h reads in
+      (f .0, rw integer (f .1))
+
+-- VMOV.I32 of a byte stands at op 0, cmode 0000
+abbrev setAt : ℕ → Bool
+setAt b = modified.readsAs "vmov.i32" (Imm (pos b)) (bit 12 b) (field 11 8 b) (field 7 0 b)
+
+set-read : (b : ℕ) → b < 256 → setAt b ≡ true
+unfolding values modified.readsAs modimm constantAt element operandIn needsNonzero
+set-read = agree setAt (λ (b : ℕ). true) 256 refl
+
+pub set-carried : (b : ℕ) → b < 256 → (t : ℕ) × (immediateIn "vmov.i32" (Imm (pos b)) ≡ accepted t)
+set-carried b h = number-carried "vmov.i32" b b refl (omega arith) (set-read b h)
+
+-- VORR.I32 of a byte at bits 8k, not 0, stands at op 0, cmode 0kk1
+abbrev joinPlace : ℕ → ℕ → ℕ
+joinPlace k b = (2 * k + 1) * 256 + b
+
+abbrev joinAt : ℕ → ℕ → Bool
+joinAt k b =
+    choose (eqb b 0) true
+    (modified.readsAs "vorr.i32" (Imm (pos (b * 2 ^ (8 * k)))) (bit 12 (joinPlace k b)) (field 11 8 (joinPlace k b)) (field 7 0 (joinPlace k b)))
+
+join-read : (k b : ℕ) → k < 4 → b < 256 → joinAt k b ≡ true
+unfolding values modified.readsAs modimm constantAt element operandIn needsNonzero
+join-read = agree2 joinAt (λ (k b : ℕ). true) 4 256 refl
+
+pub join-carried : (k b : ℕ) → k < 4 → b < 256 → b ≢ 0 → (t : ℕ) × (immediateIn "vorr.i32" (Imm (pos (b * 2 ^ (8 * k)))) ≡ accepted t)
+join-carried k b hk hb n =
+    number-carried "vorr.i32" (b * 2 ^ (8 * k)) (joinPlace k b) refl (omega arith) (rw (ne-eqb b 0 n) at (join-read k b hk hb))
+
+-- VMOV.I64 of the mask stands at op 1, cmode 1110
+pub mask-carried : (t : ℕ) × (immediateIn "vmov.i64" (Imm (pos 4294967295)) ≡ accepted t)
+unfolding modified.readsAs modimm constantAt element operandIn needsNonzero signedOf
+mask-carried = number-carried "vmov.i64" 4294967295 7695 refl (omega arith) refl

@@ -1,0 +1,284 @@
+-- The constant's recipe: its pairs are written, and they leave the constant in its half.
+-- Assumes nothing.
+use mathlib.Core.Path.{_≡_, refl, sym, _∙_, ap}
+use mathlib.Core.Bool.{Bool, true, false}
+use mathlib.Core.Logic.{_≢_}
+use mathlib.Core.List.{List, [], _∷_, _++_}
+use Prim.Native.Nat.{ℕ, zero, suc, _+_, _-_, _*_, _/_, _%_, _^_, _≤_, _<_}
+use native.Mathlib.Nat.{mod-eq-of-lt, zero-mul, lt-of-lt-of-le, add-zero}
+use native.Mathlib.Omega.{arith}
+use lib.Bits.{bitAnd, bitOr, or-block, or-shifted-r, or-zero-r, and-mask, and-high}
+use lib.Dec.{eqb, lit<}
+use lib.ListN.{length, getD, set, take, length-set, length-append}
+use lib.Pow.{pow-mono, low, high}
+use lib.Seq.{take-set-lt, take-set-le, getD-set-same, getD-set-other, set-set, length-take-le}
+use borrow.Author.Tests.{eqb-true, eqb-false}
+use Rattle.laws.specs.Choice.{choose}
+use Rattle.insn.specs.declared.Insn.{Insn}
+use Rattle.insn.specs.declared.Operand.the-variants.{D}
+use Rattle.lanes.specs.declared.Width.the-variants.{B32, B64}
+use Rattle.machine.specs.declared.operations.BitOp.the-variants.{Bif}
+use Rattle.machine.specs.declared.operations.ConstantOp.the-variants.{Mov, Orr}
+use Rattle.machine.specs.declared.operations.Operation.{Operation}
+use Rattle.machine.specs.declared.operations.Operation.the-variants.{Bits, Constant}
+use Rattle.machine.specs.File.{File, readD}
+use Rattle.machine.specs.Meaning.{Act, act, registers, repeated, meaningIn}
+use Rattle.machine.specs.Operations.{bitwise, valueOf}
+use Rattle.machine.specs.Step.{effect}
+use Rattle.machine.proofs.Actions.{repeated-lt}
+use Rattle.sheet.specs.Meaning.{paired, rowsOf}
+use Rattle.sheet.specs.Pairs.{two, three, number, byteOf, addByte, wordPairs, joined, halfPairs}
+use Rattle.sheet.proofs.Carried.{set-carried, join-carried, mask-carried}
+use Rattle.sheet.proofs.Doing.{doing, Does, does-append, doing-cons, doing-nil, doing-append}
+use Rattle.sheet.proofs.Executes.{double-is, three-executes, number-executes}
+use Rattle.sheet.proofs.Names.{bif-known, set-word-known, join-word-known, set-long-known}
+use Rattle.sheet.proofs.Rows.{paired-set, take-paired}
+
+-- what the pairs do
+abbrev setWord : ℕ → ℕ → Act
+setWord r x = act (Constant Mov (repeated B32 x)) (registers false r r r)
+
+abbrev joinWord : ℕ → ℕ → Act
+joinWord r x = act (Constant Orr (repeated B32 x)) (registers false r r r)
+
+abbrev setMask : Act
+setMask = act (Constant Mov (repeated B64 4294967295)) (registers false 30 30 30)
+
+abbrev joinHalves : ℕ → Act
+joinHalves r = act (Bits Bif) (registers false r 28 30)
+
+addAct : ℕ → ℕ → List Act
+addAct r byte = choose (eqb byte 0) [] (joinWord r byte ∷ [])
+
+wordActs : ℕ → ℕ → List Act
+wordActs r v = setWord r (v % 256) ∷ (addAct r (byteOf v 1) ++ (addAct r (byteOf v 2) ++ addAct r (byteOf v 3)))
+
+pub halfActs : ℕ → ℕ → List Act
+halfActs r v =
+    choose (eqb (v % 2 ^ 32) (v / 2 ^ 32)) (wordActs r (v % 2 ^ 32))
+    (wordActs r (v % 2 ^ 32) ++ (wordActs 28 (v / 2 ^ 32) ++ (setMask ∷ joinHalves r ∷ [])))
+
+-- the recipe's pairs do this
+module _ (r : ℕ) (hr : r < 32) where
+  add-does : (b k : ℕ) → b < 256 → k < 4 → Does (addByte r (b * 2 ^ (8 * k))) (addAct r (b * 2 ^ (8 * k)))
+  unfolding addByte addAct
+  add-does b k hb hk = go (eqb (b * 2 ^ (8 * k)) 0) refl
+    where
+      byte : ℕ
+      byte = b * 2 ^ (8 * k)
+
+      go : (t : Bool) → eqb byte 0 ≡ t → Does (choose t [] (two "vorr.i32" (D r) (number byte) ∷ [])) (choose t [] (joinWord r byte ∷ []))
+      go true e = tt
+      go false e =
+          let n : b ≢ 0 = λ z. eqb-false byte 0 e (ap (λ (b : ℕ). b * 2 ^ (8 * k)) z ∙ zero-mul (2 ^ (8 * k))) in
+          let c = join-carried k b hk hb n in
+          (number-executes byte (c .0) (double-is r hr) join-word-known (c .1), (repeated-lt B32 byte, tt))
+
+  word-does : (v : ℕ) → Does (wordPairs r v) (wordActs r v)
+  unfolding wordPairs wordActs
+  word-does v =
+      let c = set-carried (v % 256) (omega arith) in (
+        number-executes (v % 256) (c .0) (double-is r hr) set-word-known (c .1),
+        (
+          repeated-lt B32 (v % 256),
+          does-append (addByte r (byteOf v 1)) _ (addAct r (byteOf v 1)) _ (add-does (v / 2 ^ 8 % 256) 1 (omega arith) (omega arith))
+              (does-append (addByte r (byteOf v 2)) _ (addAct r (byteOf v 2)) _ (add-does (v / 2 ^ 16 % 256) 2 (omega arith) (omega arith))
+              (add-does (v / 2 ^ 24 % 256) 3 (omega arith) (omega arith))),
+        ),
+      )
+
+join-does : (r : ℕ) → r < 32 → Does (joined r) (setMask ∷ joinHalves r ∷ [])
+unfolding joined meaningIn
+join-does r hr = (
+  number-executes 4294967295 (mask-carried .0) (double-is 30 (lit< tt)) set-long-known (mask-carried .1),
+  (repeated-lt B64 4294967295, (three-executes (double-is r hr) (double-is 28 (lit< tt)) (double-is 30 (lit< tt)) (Bits Bif) bif-known refl refl, (tt, tt))),
+)
+
+pub half-does : (r v : ℕ) → r < 32 → Does (halfPairs r v) (halfActs r v)
+unfolding halfPairs halfActs
+half-does r v hr = go (eqb (v % 2 ^ 32) (v / 2 ^ 32))
+  where
+    go : (t : Bool)
+        → Does (choose t (wordPairs r (v % 2 ^ 32)) (wordPairs r (v % 2 ^ 32) ++ (wordPairs 28 (v / 2 ^ 32) ++ joined r)))
+        (choose t (wordActs r (v % 2 ^ 32)) (wordActs r (v % 2 ^ 32) ++ (wordActs 28 (v / 2 ^ 32) ++ (setMask ∷ joinHalves r ∷ []))))
+    go true = word-does r hr (v % 2 ^ 32)
+    go false =
+        does-append (wordPairs r (v % 2 ^ 32)) _ (wordActs r (v % 2 ^ 32)) _ (word-does r hr (v % 2 ^ 32))
+        (does-append (wordPairs 28 (v / 2 ^ 32)) _ (wordActs 28 (v / 2 ^ 32)) _ (word-does 28 (lit< tt) (v / 2 ^ 32)) (join-does r hr))
+
+-- at most ten pairs
+add-few : (r byte : ℕ) → length (addByte r byte) ≤ 1
+unfolding addByte
+add-few r byte = go (eqb byte 0)
+  where
+    go : (t : Bool) → length (choose t [] (two "vorr.i32" (D r) (number byte) ∷ [])) ≤ 1
+    go true = omega arith
+    go false = omega arith
+
+word-few : (r v : ℕ) → length (wordPairs r v) ≤ 4
+unfolding wordPairs
+word-few r v = simp length-append (omega (arith, add-few r (byteOf v 1), add-few r (byteOf v 2), add-few r (byteOf v 3)))
+
+pub half-few : (r v : ℕ) → length (halfPairs r v) ≤ 10
+unfolding halfPairs joined
+half-few r v = go (eqb (v % 2 ^ 32) (v / 2 ^ 32))
+  where
+    go : (t : Bool) → length (choose t (wordPairs r (v % 2 ^ 32)) (wordPairs r (v % 2 ^ 32) ++ (wordPairs 28 (v / 2 ^ 32) ++ joined r))) ≤ 10
+    go true = omega (arith, word-few r (v % 2 ^ 32))
+    go false = simp length-append (omega (arith, word-few r (v % 2 ^ 32), word-few 28 (v / 2 ^ 32)))
+
+-- an operation on doublewords is one store
+double-effect : (op : Operation) (d n m : ℕ) (file : File)
+    → effect op (registers false d n m) file ≡ set file d (valueOf 64 op (readD file d) (readD file n) (readD file m))
+unfolding effect
+double-effect op d n m file = refl
+
+-- a word in both words of a doubleword
+abbrev twice : ℕ → ℕ
+twice x = x * (2 ^ 32 + 1)
+
+repeated-word : (x : ℕ) → x < 2 ^ 32 → repeated B32 x ≡ twice x
+unfolding repeated
+repeated-word x h = rw (mod-eq-of-lt h) (omega arith)
+
+repeated-mask : repeated B64 4294967295 ≡ 4294967295
+unfolding repeated
+repeated-mask = refl
+
+-- a byte above what is there
+join-byte : (x b p : ℕ) → x < 2 ^ p → p ≤ 24 → b * 2 ^ p < 2 ^ 32 → bitOr (twice x) (twice (b * 2 ^ p)) ≡ twice (x + b * 2 ^ p)
+join-byte x b p h g k =
+    let y = b * 2 ^ p in
+    let e : twice x ≡ x * 2 ^ 32 + x = omega arith in
+    let f : twice y ≡ y * 2 ^ 32 + y = omega arith in
+    let hx : x < 2 ^ 32 = lt-of-lt-of-le h (pow-mono {i = p} {j = 32} (omega arith)) in
+    rw (e, f, or-block 32 x y x y hx k, or-shifted-r b p x h) (omega arith)
+
+module _ (file : File) (r : ℕ) (size : length file ≡ 32) (hr : r < 32) where
+  set-left : (x : ℕ) → x < 2 ^ 32 → effect (Constant Mov (repeated B32 x)) (registers false r r r) file ≡ set file r (twice x)
+  unfolding valueOf
+  set-left x h = rw (double-effect (Constant Mov (repeated B32 x)) r r r file, repeated-word x h, add-zero)
+
+  add-left : (byte x : ℕ) → byte < 2 ^ 32 → doing (addAct r byte) (set file r x) ≡ set file r (bitOr x (twice byte))
+  unfolding addAct valueOf
+  add-left byte x h = go (eqb byte 0) refl
+    where
+      go : (t : Bool) → eqb byte 0 ≡ t → doing (choose t [] (joinWord r byte ∷ [])) (set file r x) ≡ set file r (bitOr x (twice byte))
+      go true e = let z : byte ≡ 0 = eqb-true byte 0 e in rw (doing-nil, z, zero-mul, or-zero-r)
+      go false e =
+          rw (
+            doing-cons,
+            doing-nil,
+            double-effect (Constant Orr (repeated B32 byte)) r r r (set file r x),
+            repeated-word byte h,
+            getD-set-same file r x 0 (omega arith),
+            set-set,
+            add-zero,
+          )
+
+  word-left : (v : ℕ) → v < 2 ^ 32 → doing (wordActs r v) file ≡ set file r (twice v)
+  unfolding wordActs
+  word-left v h =
+      let b0 = v % 256 in
+      let b1 = v / 2 ^ 8 % 256 in
+      let b2 = v / 2 ^ 16 % 256 in
+      let b3 = v / 2 ^ 24 % 256 in
+      let top : b3 ≡ v / 2 ^ 24 = mod-eq-of-lt (omega arith) in
+      let s : b0 + b1 * 2 ^ 8 + b2 * 2 ^ 16 + b3 * 2 ^ 24 ≡ v = rw top (omega arith) in
+      rw (
+        doing-cons,
+        set-left b0 (omega arith),
+        doing-append (addAct r (b1 * 2 ^ 8)) (addAct r (b2 * 2 ^ 16) ++ addAct r (b3 * 2 ^ 24)) (set file r (twice b0)),
+        add-left (b1 * 2 ^ 8) (twice b0) (omega arith),
+        join-byte b0 b1 8 (omega arith) (omega arith) (omega arith),
+        doing-append (addAct r (b2 * 2 ^ 16)) (addAct r (b3 * 2 ^ 24)) (set file r (twice (b0 + b1 * 2 ^ 8))),
+        add-left (b2 * 2 ^ 16) (twice (b0 + b1 * 2 ^ 8)) (omega arith),
+        join-byte (b0 + b1 * 2 ^ 8) b2 16 (omega arith) (omega arith) (omega arith),
+        add-left (b3 * 2 ^ 24) (twice (b0 + b1 * 2 ^ 8 + b2 * 2 ^ 16)) (omega arith),
+        join-byte (b0 + b1 * 2 ^ 8 + b2 * 2 ^ 16) b3 24 (omega arith) (omega arith) (omega arith),
+        s,
+      )
+
+-- the mask takes the low word of one and the high word of the other
+merged : (lo hi : ℕ) → lo < 2 ^ 32 → hi < 2 ^ 32 → bitwise 64 Bif (twice lo) (twice hi) 4294967295 ≡ hi * 2 ^ 32 + lo
+merged lo hi p q =
+    let e : (x : ℕ) → twice x ≡ x * 2 ^ 32 + x = λ x. omega arith in
+    let a : twice lo % 2 ^ 32 ≡ lo = ap (λ (n : ℕ). n % 2 ^ 32) (e lo) ∙ low lo 32 p in
+    let b : twice hi / 2 ^ 32 % 2 ^ 32 ≡ hi = ap (λ (n : ℕ). n / 2 ^ 32 % 2 ^ 32) (e hi) ∙ ap (λ (n : ℕ). n % 2 ^ 32) (high hi 32 q) ∙ mod-eq-of-lt q in
+    rw (and-mask (twice lo) 32, a, and-high (twice hi) 32 32, b) (or-shifted-r hi 32 lo p)
+
+module _ (file : File) (r v : ℕ) (size : length file ≡ 32) (hr : r < 28) (hv : v < 2 ^ 64) where
+  abbrev lo : ℕ
+  lo = v % 2 ^ 32
+
+  abbrev hi : ℕ
+  hi = v / 2 ^ 32
+
+  -- the file with both words, and with the mask
+  abbrev f1 : File
+  f1 = set file r (twice lo)
+
+  abbrev f2 : File
+  f2 = set f1 28 (twice hi)
+
+  abbrev f3 : File
+  f3 = set f2 30 4294967295
+
+  different : take 28 (doing (wordActs r lo ++ (wordActs 28 hi ++ (setMask ∷ joinHalves r ∷ []))) file) ≡ set (take 28 file) r v
+  unfolding valueOf
+  different =
+      let s1 : length f1 ≡ 32 = length-set file r (twice lo) ∙ size in
+      let s2 : length f2 ≡ 32 = length-set f1 28 (twice hi) ∙ s1 in
+      let d : getD f3 r 0 ≡ twice lo = getD-set-other f2 30 r 4294967295 0 (λ z. let b : ⊥ = omega arith in b) ∙ getD-set-other f1 28 r (twice hi) 0 (λ z. let b : ⊥ = omega arith in b) ∙ getD-set-same file r (twice lo) 0 (omega arith) in
+      let n : getD f3 28 0 ≡ twice hi = getD-set-other f2 30 28 4294967295 0 (λ z. let b : ⊥ = omega arith in b) ∙ getD-set-same f1 28 (twice hi) 0 (omega arith) in
+      let m : getD f3 30 0 ≡ 4294967295 = getD-set-same f2 30 4294967295 0 (omega arith) in
+      let w : hi * 2 ^ 32 + lo ≡ v = omega arith in
+      rw (
+        doing-append (wordActs r lo) (wordActs 28 hi ++ (setMask ∷ joinHalves r ∷ [])) file,
+        word-left file r size (omega arith) lo (omega arith),
+        doing-append (wordActs 28 hi) (setMask ∷ joinHalves r ∷ []) f1,
+        word-left f1 28 s1 (omega arith) hi (omega arith),
+        doing-cons,
+        double-effect (Constant Mov (repeated B64 4294967295)) 30 30 30 f2,
+        repeated-mask,
+        doing-cons,
+        doing-nil,
+        double-effect (Bits Bif) r 28 30 f3,
+        d,
+        n,
+        m,
+        merged lo hi (omega arith) (omega arith),
+        w,
+        take-set-lt 28 f3 r v hr,
+        take-set-le 28 f2 30 4294967295 (omega arith),
+        take-set-le 28 f1 28 (twice hi) (omega arith),
+        take-set-lt 28 file r (twice lo) hr,
+        set-set,
+      )
+
+  pub half-left : take 28 (doing (halfActs r v) file) ≡ set (take 28 file) r v
+  unfolding halfActs
+  half-left = go (eqb lo hi) refl
+    where
+      go : (t : Bool) → eqb lo hi ≡ t
+          → take 28 (doing (choose t (wordActs r lo) (wordActs r lo ++ (wordActs 28 hi ++ (setMask ∷ joinHalves r ∷ [])))) file) ≡ set (take 28 file) r v
+      go true e =
+          let s : lo ≡ hi = eqb-true lo hi e in
+          let f : twice lo ≡ v = omega arith in
+          rw (word-left file r size (omega arith) lo (omega arith), f) (take-set-lt 28 file r v hr)
+      go false e = different
+
+-- the low half, then the high
+pub constant-left : (file : File) (t low high : ℕ) → length file ≡ 32 → length (doing (halfActs (2 * t) low) file) ≡ 32 → t < 14 → low < 2 ^ 64 → high < 2 ^ 64
+    → rowsOf (doing (halfActs (2 * t) low ++ halfActs (2 * t + 1) high) file) ≡ set (rowsOf file) t (low + 2 ^ 64 * high)
+unfolding rowsOf
+constant-left file t low high size s h p q =
+    let f = doing (halfActs (2 * t) low) file in
+    rw (
+      take-paired 14 (doing (halfActs (2 * t) low ++ halfActs (2 * t + 1) high) file),
+      take-paired 14 file,
+      doing-append (halfActs (2 * t) low) (halfActs (2 * t + 1) high) file,
+      half-left f (2 * t + 1) high s (omega arith) q,
+      half-left file (2 * t) low size (omega arith) p,
+    )
+    (paired-set (take 28 file) t low high (rw (length-take-le 28 file (omega arith)) (omega arith)))

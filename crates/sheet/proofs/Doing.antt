@@ -1,0 +1,75 @@
+-- Records one after another: their halfwords, and what these do to a file.
+-- Assumes nothing.
+use mathlib.Core.Path.{_≡_, refl, sym, ap, _∙_}
+use mathlib.Core.List.{List, [], _∷_, _++_}
+use Prim.Native.Nat.{ℕ, zero, suc, _+_, _*_}
+use native.Mathlib.Omega.{arith}
+use lib.ListN.{length}
+use Rattle.laws.specs.Answer.{Answer, accepted, andThen}
+use Rattle.insn.specs.declared.Insn.{Insn}
+use Rattle.encode.specs.Writing.{writing}
+use Rattle.machine.specs.declared.operations.Operation.{Operation}
+use Rattle.machine.specs.declared.meanings.Registers.{Registers}
+use Rattle.machine.specs.File.{File, Good}
+use Rattle.machine.specs.Meaning.{Act, act}
+use Rattle.machine.specs.Operations.{Sized}
+use Rattle.machine.specs.Run.{steps}
+use Rattle.machine.specs.Step.{effect, stepPair}
+use Rattle.machine.proofs.Steps.{effect-good}
+use Rattle.sheet.specs.Pairs.{halves, codeOf}
+use Rattle.sheet.proofs.Executes.{Executes}
+
+-- what operations leave, one after another
+unfoldable pub doing : List Act → File → File
+doing [] file = file
+doing (act op r ∷ acts) file = doing acts (effect op r file)
+
+-- records whose pairs do these operations
+abbrev pub Does : List Insn → List Act → Type 0
+Does [] [] = Unit {0}
+Does [] (act op r ∷ acts) = ⊥
+Does (i ∷ is) [] = ⊥
+Does (i ∷ is) (act op r ∷ acts) = Executes i op r × (Sized op × Does is acts)
+
+pub does-append : (is js : List Insn) (xs ys : List Act) → Does is xs → Does js ys → Does (is ++ js) (xs ++ ys)
+does-append [] js [] ys p q = q
+does-append [] js (act op r ∷ xs) ys p q = absurd p
+does-append (i ∷ is) js [] ys p q = absurd p
+does-append (i ∷ is) js (act op r ∷ xs) ys p q = (p .0, (p .1 .0, does-append is js xs ys (p .1 .1) q))
+
+pub doing-cons : (op : Operation) (r : Registers) (xs : List Act) (file : File) → doing (act op r ∷ xs) file ≡ doing xs (effect op r file)
+unfolding doing
+doing-cons op r xs file = refl
+
+pub doing-nil : (file : File) → doing [] file ≡ file
+unfolding doing
+doing-nil file = refl
+
+pub doing-append : (xs ys : List Act) (file : File) → doing (xs ++ ys) file ≡ doing ys (doing xs file)
+unfolding doing
+doing-append [] ys file = refl
+doing-append (act op r ∷ xs) ys file = doing-append xs ys (effect op r file)
+
+-- the file stays 32 numbers of 64 bits
+pub doing-good : (is : List Insn) (xs : List Act) (file : File) → Does is xs → Good file → Good (doing xs file)
+unfolding doing
+doing-good [] [] file d g = g
+doing-good [] (act op r ∷ xs) file d g = absurd d
+doing-good (i ∷ is) [] file d g = absurd d
+doing-good (i ∷ is) (act op r ∷ xs) file d g = doing-good is xs (effect op r file) (d .1 .1) (effect-good op file r (d .1 .0) g)
+
+-- two halfwords a record
+pub code-length : (is : List Insn) (xs : List Act) → Does is xs → length (codeOf is) ≡ 2 * length is
+unfolding codeOf
+code-length [] [] d = refl
+code-length [] (act op r ∷ xs) d = absurd d
+code-length (i ∷ is) [] d = absurd d
+code-length (i ∷ is) (act op r ∷ xs) d = rw (d .0 .wrote) (omega (arith, code-length is xs (d .1 .1)))
+
+-- a machine step a record
+pub code-steps : (is : List Insn) (xs : List Act) (file : File) → Does is xs → steps (length is) (codeOf is) file ≡ accepted (doing xs file)
+unfolding codeOf steps doing
+code-steps [] [] file d = refl
+code-steps [] (act op r ∷ xs) file d = absurd d
+code-steps (i ∷ is) [] file d = absurd d
+code-steps (i ∷ is) (act op r ∷ xs) file d = rw (d .0 .wrote, d .0 .stepped file) (code-steps is xs (effect op r file) (d .1 .1))

@@ -1,0 +1,20 @@
+use Rattle.encode.specs.Answers.{writingAnswer}
+use Rattle.sheet.proofs.Puts.{put-one, put-refused}
+use native.Mathlib.Omega.{arith}
+use Prim.Native.Nat.{ℕ, _+_, _*_, _^_, _<_, _≤_}
+use mathlib.Core.Path.{_≡_, refl, sym, _∙_, ap}
+use borrow.Author.Needs.{needs}
+use Rattle.sheet.proofs.emit.put.Statement.{statement}
+use Rattle.sheet.proofs.emit.put.Tie as tie
+
+returns : tie.Need-returns
+returns c = let a = c .before .before .before .before .before .before .before .before .before .before .before .before .before .args in let e = sym (c .before .before .before .before .before .before .before .before .before .before .before .write .ensures) ∙ ap writingAnswer (c .before .before .before .before .before .before .before .before .before .w .given .1) in (rw (c .before .before .store2 .ensures, c .before .before .before .before .before .before .store .ensures) (put-one (a .i) (a .at) _ _ (a .out .now) e), omega arith)
+
+returns-2 : tie.Need-returns-2
+returns-2 c = let a = c .before .before .before .before .args in let e = sym (c .before .before .write .ensures) ∙ ap writingAnswer (c .enum-told .given .1) in (put-refused (a .i) (a .at) _ (a .out .now) e, omega arith)
+
+pub put-spec : {M : Type 1} → statement M
+put-spec =
+    tie.close
+    (tie.spec (λ c κs. search needs) (λ c. search needs) (λ c κs. search needs) (λ c. search needs) (λ c κs. search needs)
+    (λ c. search needs) (λ c. search needs) (λ c. search needs) returns returns-2)

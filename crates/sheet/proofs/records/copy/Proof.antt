@@ -1,0 +1,12 @@
+use Rattle.sheet.proofs.Numbers.{vmov-number}
+use mathlib.Core.Path.{_≡_, refl, sym, _∙_, ap}
+use borrow.Author.Needs.{needs}
+use Rattle.sheet.proofs.records.copy.Statement.{statement}
+use Rattle.sheet.proofs.records.copy.Tie as tie
+
+returns : tie.Need-returns
+returns c = rw (c .two .ensures, vmov-number)
+
+pub copy-spec : {M : Type 1} → statement M
+copy-spec = tie.close
+    (tie.spec (λ c κs. search needs) returns)

@@ -1,0 +1,12 @@
+use Rattle.sheet.proofs.Numbers.{join-word-number}
+use mathlib.Core.Path.{_≡_, refl, sym, _∙_, ap}
+use borrow.Author.Needs.{needs}
+use Rattle.sheet.proofs.records.join_byte.Statement.{statement}
+use Rattle.sheet.proofs.records.join_byte.Tie as tie
+
+returns : tie.Need-returns
+returns c = rw (c .two .ensures, c .before .number .ensures, join-word-number)
+
+pub join-byte-spec : {M : Type 1} → statement M
+join-byte-spec = tie.close
+    (tie.spec (λ c κs. search needs) (λ c κs. search needs) returns)

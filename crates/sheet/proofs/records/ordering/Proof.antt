@@ -1,0 +1,28 @@
+use Rattle.sheet.proofs.Numbers.{max-number, min-number, greater-number}
+use Rattle.sheet.proofs.Kept.{kept-at}
+use Rattle.sheet.specs.Rules.{table}
+use Rattle.sheet.specs.Pairs.{pairTable, pairsBy}
+use native.Mathlib.Omega.{arith}
+use Prim.Native.Nat.{ℕ, _+_, _*_, _^_, _<_, _≤_}
+use mathlib.Core.Path.{_≡_, refl, sym, _∙_, ap}
+use borrow.Author.Needs.{needs}
+use Rattle.sheet.proofs.records.ordering.Statement.{statement}
+use Rattle.sheet.proofs.records.ordering.Tie as tie
+
+returns : tie.Need-returns
+unfolding pairsBy pairTable table
+returns c = let k = c .before .before .match .keys1 in rw (k, c .three .ensures, c .before .by-sign .ensures, max-number (c .before .before .before .args .s .sign) (c .before .before .before .args .s .width) (kept-at _ 11 (c .before .before .before .pre .0) k .width))
+
+returns-2 : tie.Need-returns-2
+unfolding pairsBy pairTable table
+returns-2 c = let k = c .before .before .match .keys2 in rw (k, c .three2 .ensures, c .before .by-sign2 .ensures, min-number (c .before .before .before .args .s .sign) (c .before .before .before .args .s .width) (kept-at _ 12 (c .before .before .before .pre .0) k .width))
+
+returns-3 : tie.Need-returns-3
+unfolding pairsBy pairTable table
+returns-3 c = let k : c .before .before .before .args .s .kind ≡ 13 = omega (arith, c .before .before .match .rest .0, c .before .before .match .rest .1) in rw (k, c .three3 .ensures, c .before .by-sign3 .ensures, greater-number (c .before .before .before .args .s .sign) (c .before .before .before .args .s .width) (kept-at _ 13 (c .before .before .before .pre .0) k .width))
+
+pub ordering-spec : {M : Type 1} → statement M
+ordering-spec =
+    tie.close
+    (tie.spec (λ c κs. search needs) (λ c κs. search needs) (λ c κs. search needs) (λ c κs. search needs) (λ c κs. search needs)
+    (λ c κs. search needs) returns returns-2 returns-3)

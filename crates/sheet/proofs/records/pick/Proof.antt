@@ -1,0 +1,12 @@
+use Rattle.sheet.proofs.Numbers.{vbsl-number}
+use mathlib.Core.Path.{_≡_, refl, sym, _∙_, ap}
+use borrow.Author.Needs.{needs}
+use Rattle.sheet.proofs.records.pick.Statement.{statement}
+use Rattle.sheet.proofs.records.pick.Tie as tie
+
+returns : tie.Need-returns
+returns c = rw (c .three .ensures, vbsl-number)
+
+pub pick-spec : {M : Type 1} → statement M
+pick-spec = tie.close
+    (tie.spec (λ c κs. search needs) returns)

@@ -1,0 +1,12 @@
+use Rattle.sheet.proofs.Numbers.{set-word-number}
+use mathlib.Core.Path.{_≡_, refl, sym, _∙_, ap}
+use borrow.Author.Needs.{needs}
+use Rattle.sheet.proofs.records.set_word.Statement.{statement}
+use Rattle.sheet.proofs.records.set_word.Tie as tie
+
+returns : tie.Need-returns
+returns c = rw (c .two .ensures, c .before .number .ensures, set-word-number)
+
+pub set-word-spec : {M : Type 1} → statement M
+set-word-spec = tie.close
+    (tie.spec (λ c κs. search needs) (λ c κs. search needs) returns)

@@ -1,0 +1,19 @@
+use Rattle.sheet.proofs.Columns.{no-word}
+use Rattle.sheet.specs.Rules.{table}
+use borrow.Author.Tests.{lt-ltb}
+use native.Mathlib.Omega.{arith}
+use Prim.Native.Nat.{ℕ, _+_, _*_, _^_, _<_, _≤_}
+use mathlib.Core.Path.{_≡_, refl, sym, _∙_, ap}
+use Rattle.sheet.proofs.rules.keeps_word.Statement.{statement}
+use Rattle.sheet.proofs.rules.keeps_word.Tie as tie
+
+returns : tie.Need-returns
+unfolding table
+returns c = rw (c .if1 .taken) (sym (lt-ltb (c .before .args .v) (2 ^ 64) (omega arith)))
+
+returns-2 : tie.Need-returns-2
+returns-2 c = rw (no-word (c .before .args .kind) (omega arith) (c .if1 .left))
+
+pub keeps-word-spec : {M : Type 1} → statement M
+keeps-word-spec = tie.close
+    (tie.spec returns returns-2)

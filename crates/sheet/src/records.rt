@@ -1,0 +1,238 @@
+// The records that steps are written as.
+ghost use mathlib.Core.Path.{_≡_};
+ghost use mathlib.Core.Bool.{true};
+ghost use mathlib.Core.List.{[], _∷_};
+ghost use mathlib.Core.Logic.{_≢_};
+ghost use Prim.Native.Nat.{_+_, _<_, _≤_};
+ghost use lib.Dec.{eqb};
+ghost use lib.IntN.{pos};
+ghost use Rattle.laws.specs.Choice.{choose};
+ghost use Rattle.insn.specs.declared.Mark.the-variants.{T1};
+ghost use Rattle.insn.specs.declared.Operand.the-variants.{D, Q, Imm, Absent};
+ghost use Rattle.decode.specs.Operands.{insn as recordOf};
+ghost use Rattle.sheet.specs.Pairs.{two as twoOf, three as threeOf, number as numberOf, pairsBy};
+ghost use Rattle.sheet.specs.Rules.{keeps};
+use crate::steps::Step;
+use insn::Insn;
+use insn::Mark;
+use insn::Operand;
+
+// Mnemonic numbers; a name with lanes stands here for its first width, and the others follow.
+const VAND: u16 = 10;
+
+const VORR: u16 = 12;
+
+const VORN: u16 = 13;
+
+const VCGT_S: u16 = 21;
+
+const VMAX_S: u16 = 43;
+
+const VMIN_S: u16 = 46;
+
+const VADD: u16 = 55;
+
+const VMUL: u16 = 65;
+
+const VEOR: u16 = 100;
+
+const VBSL: u16 = 101;
+
+const VBIF: u16 = 103;
+
+const VCGT_U: u16 = 111;
+
+const VMAX_U: u16 = 133;
+
+const VMIN_U: u16 = 136;
+
+const VSUB: u16 = 145;
+
+const VSHR_S: u16 = 173;
+
+const VSHL: u16 = 189;
+
+const VSHR_U: u16 = 210;
+
+const VMOV_I32: u16 = 261;
+
+const VORR_I32: u16 = 262;
+
+const VMOV_I64: u16 = 271;
+
+const VMOV: u16 = 345;
+
+// A mnemonic with two operands, and one with three.
+fn two(m: u16, x: Operand, y: Operand) -> Insn
+    ensures { λ r. ⌜ r ≡ recordOf m T1 0 2 x y Absent ⌝ }
+{
+    Insn {
+        mnemonic: m,
+        mark: Mark::T1,
+        address: 0,
+        count: 2,
+        first: x,
+        second: y,
+        third: Operand::Absent,
+    }
+}
+
+fn three(m: u16, x: Operand, y: Operand, z: Operand) -> Insn
+    ensures { λ r. ⌜ r ≡ recordOf m T1 0 3 x y z ⌝ }
+{
+    Insn {
+        mnemonic: m,
+        mark: Mark::T1,
+        address: 0,
+        count: 3,
+        first: x,
+        second: y,
+        third: z,
+    }
+}
+
+fn number(n: u32) -> Operand
+    ensures { λ r. ⌜ r ≡ Imm (pos n) ⌝ }
+{
+    Operand::Imm(n as i64)
+}
+
+// A constant's pairs: 32 bits set in both words of a register, a byte joined to them,
+pub fn set_word(x: Operand, v: u32) -> Insn
+    ensures { λ r. ⌜ r ≡ twoOf "vmov.i32" x (numberOf v) ⌝ }
+{
+    two(VMOV_I32, x, number(v))
+}
+
+pub fn join_byte(r: u8, byte: u32) -> Insn
+    ensures { λ i. ⌜ i ≡ twoOf "vorr.i32" (D r) (numberOf byte) ⌝ }
+{
+    two(VORR_I32, Operand::D(r), number(byte))
+}
+
+// a mask in D30, and the high word from D28 by that mask.
+pub fn set_mask() -> Insn
+    ensures { λ i. ⌜ i ≡ twoOf "vmov.i64" (D 30) (numberOf 4294967295) ⌝ }
+{
+    two(VMOV_I64, Operand::D(30), number(0xffff_ffff))
+}
+
+pub fn join_words(r: u8) -> Insn
+    ensures { λ i. ⌜ i ≡ threeOf "vbif" (D r) (D 28) (D 30) ⌝ }
+{
+    three(VBIF, Operand::D(r), Operand::D(28), Operand::D(30))
+}
+
+// A copy of a row; a row inverted, with the zero in Q14; a row picked by Q14, in Q14.
+pub fn copy(t: u8, a: u8) -> Insn
+    ensures { λ i. ⌜ i ≡ twoOf "vmov" (Q t) (Q a) ⌝ }
+{
+    two(VMOV, Operand::Q(t), Operand::Q(a))
+}
+
+pub fn invert(t: u8, a: u8) -> Insn
+    ensures { λ i. ⌜ i ≡ threeOf "vorn" (Q t) (Q 14) (Q a) ⌝ }
+{
+    three(VORN, Operand::Q(t), Operand::Q(14), Operand::Q(a))
+}
+
+pub fn pick(a: u8, b: u8) -> Insn
+    ensures { λ i. ⌜ i ≡ threeOf "vbsl" (Q 14) (Q a) (Q b) ⌝ }
+{
+    three(VBSL, Operand::Q(14), Operand::Q(a), Operand::Q(b))
+}
+
+// The mnemonic of a sign, 1 for signed, and of a width code.
+fn by_sign(sign: u8, width: u8, signed: u16, unsigned: u16) -> u16
+    requires { ⌜ (signed < 256) × (unsigned < 256) ⌝ }
+    ensures { λ r. ⌜ r ≡ choose (eqb sign 1) signed unsigned + width ⌝ }
+{
+    if sign == 1 {
+        signed + width as u16
+    } else {
+        unsigned + width as u16
+    }
+}
+
+// Kinds 1 to 4: copy, sum, difference, product.
+fn arithmetic(s: Step) -> Insn
+    requires { ⌜ (keeps s ≡ true) × ((1 ≤ s .kind) × (s .kind < 5)) ⌝ }
+    ensures { λ r. ⌜ (r ∷ []) ≡ pairsBy (s .kind) s ⌝ }
+{
+    let t = Operand::Q(s.target);
+    let a = Operand::Q(s.a);
+    let b = Operand::Q(s.b);
+    let w = s.width as u16;
+    let k = s.kind;
+    match k {
+        1 => copy(s.target, s.a),
+        2 => three(VADD + w, t, a, b),
+        3 => three(VSUB + w, t, a, b),
+        _ => three(VMUL + w, t, a, b),
+    }
+}
+
+// Kinds 5 to 7: and, or, exclusive or.
+fn bitwise(s: Step) -> Insn
+    requires { ⌜ (keeps s ≡ true) × ((5 ≤ s .kind) × (s .kind < 8)) ⌝ }
+    ensures { λ r. ⌜ (r ∷ []) ≡ pairsBy (s .kind) s ⌝ }
+{
+    let t = Operand::Q(s.target);
+    let a = Operand::Q(s.a);
+    let b = Operand::Q(s.b);
+    let k = s.kind;
+    match k {
+        5 => three(VAND, t, a, b),
+        6 => three(VORR, t, a, b),
+        _ => three(VEOR, t, a, b),
+    }
+}
+
+// Kinds 9 and 10: left, and right, which is a copy for amount 0.
+fn shift(s: Step) -> Insn
+    requires { ⌜ (keeps s ≡ true) × ((9 ≤ s .kind) × (s .kind < 11)) ⌝ }
+    ensures { λ r. ⌜ (r ∷ []) ≡ pairsBy (s .kind) s ⌝ }
+{
+    let t = Operand::Q(s.target);
+    let a = Operand::Q(s.a);
+    let amount = number(s.amount as u32);
+    if s.kind == 9 {
+        return three(VSHL + s.width as u16, t, a, amount);
+    }
+    if s.amount == 0 {
+        return copy(s.target, s.a);
+    }
+    three(by_sign(s.sign, s.width, VSHR_S, VSHR_U), t, a, amount)
+}
+
+// Kinds 11 to 13: greatest, least, and the mask of a < b, which is b > a.
+fn ordering(s: Step) -> Insn
+    requires { ⌜ (keeps s ≡ true) × ((11 ≤ s .kind) × (s .kind < 14)) ⌝ }
+    ensures { λ r. ⌜ (r ∷ []) ≡ pairsBy (s .kind) s ⌝ }
+{
+    let t = Operand::Q(s.target);
+    let a = Operand::Q(s.a);
+    let b = Operand::Q(s.b);
+    let k = s.kind;
+    match k {
+        11 => three(by_sign(s.sign, s.width, VMAX_S, VMAX_U), t, a, b),
+        12 => three(by_sign(s.sign, s.width, VMIN_S, VMIN_U), t, a, b),
+        _ => three(by_sign(s.sign, s.width, VCGT_S, VCGT_U), t, b, a),
+    }
+}
+
+// The record of a step that is one pair.
+pub fn single(s: Step) -> Insn
+    requires { ⌜ (keeps s ≡ true) × ((s .kind ≢ 0) × ((s .kind ≢ 8) × (s .kind < 14))) ⌝ }
+    ensures { λ r. ⌜ (r ∷ []) ≡ pairsBy (s .kind) s ⌝ }
+{
+    if s.kind < 5 {
+        arithmetic(s)
+    } else if s.kind < 8 {
+        bitwise(s)
+    } else if s.kind < 11 {
+        shift(s)
+    } else {
+        ordering(s)
+    }
+}
