@@ -24,4 +24,8 @@ uint32_t bodlixo_write(const uint64_t record[10], uint16_t pair[2]);
 uint32_t bodlixo_run(const uint16_t *code, size_t len, uint64_t start, uint64_t *file, size_t file_len, uint64_t budget,
                      uint64_t *executed);
 
+/* Translates a sum sheet of `len` bytes into `out`. `*at` is the pair count; or, after a refusal, which leaves `out`
+   untouched, the index of the step where the refusal has one, else 0. */
+uint32_t bodlixo_translate(const uint8_t *sheet, size_t len, uint16_t *out, size_t out_len, uint64_t *at);
+
 #endif

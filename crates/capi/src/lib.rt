@@ -1,14 +1,17 @@
 // The C boundary; include/bodlixo.h has the declarations.
 ghost use mathlib.Core.Path.{_≡_};
 ghost use Rattle.decode.specs.Reading.{reading};
+ghost use lib.ListN.{length};
 ghost use Rattle.machine.specs.Run.{runOf};
-ghost use Rattle.capi.specs.Codes.{codeOf, endCode};
+ghost use Rattle.sheet.specs.Translation.{translationOf, writtenOf};
+ghost use Rattle.capi.specs.Codes.{codeOf, endCode, translationCode, translationAt};
 ghost use Rattle.encode.specs.Writing.{writing};
 ghost use Rattle.capi.specs.Records.{recordOf};
 ghost use Rattle.capi.specs.Words.{recordAfter, pairAfter};
 use decode::Reading;
 use encode::Writing;
 use machine::Outcome;
+use sheet::Translation;
 
 mod records;
 mod words;
@@ -64,5 +67,29 @@ pub extern "C" fn bodlixo_run(
     match outcome {
         Outcome::Done => 0,
         Outcome::Refused(f) => insn::refusal_number(f) as u32,
+    }
+}
+
+// Translates a sheet into the output: 0 and the pair count, or the refusal's number and its step's index, else 0.
+#[no_mangle]
+pub extern "C" fn bodlixo_translate(sheet: &[u8], out: &mut [u16], at: &mut u64) -> u32
+    ensures code { λ r. ⌜ r ≡ translationCode (translationOf (now (sheet .entry)) (length (now (out .entry)))) ⌝ }
+    ensures at { λ r. ⌜ now (at .exit) ≡ translationAt (translationOf (now (sheet .entry)) (length (now (out .entry)))) ⌝ }
+    ensures out { λ r. ⌜ now (out .exit) ≡ writtenOf (now (sheet .entry)) (now (out .entry)) ⌝ }
+{
+    let answer = sheet::translate(sheet, out);
+    match answer {
+        Translation::Pairs(n) => {
+            *at = n;
+            0
+        }
+        Translation::Refused(f) => {
+            *at = 0;
+            insn::refusal_number(f) as u32
+        }
+        Translation::RefusedAt(f, i) => {
+            *at = i;
+            insn::refusal_number(f) as u32
+        }
     }
 }
