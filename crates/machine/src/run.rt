@@ -72,10 +72,9 @@ fn go(code: &[u16], start: usize, file: [u64; 32], budget: u64) -> Halt
         }
         let stepped = step(f, code[2 * at], code[2 * at + 1]);
         let outcome = stepped.outcome;
-        let next = stepped.file;
         match outcome {
             Outcome::Done => {
-                f = next;
+                f = stepped.file;
             }
             Outcome::Refused(r) => return halted(Outcome::Refused(r), budget - left, f),
         }

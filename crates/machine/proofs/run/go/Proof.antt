@@ -37,7 +37,7 @@ returns c =
 
 returns-2 : tie.Need-returns-2 Inv-loop μ-loop
 returns-2 c =
-    let s = c .before .before .before .before .before in
+    let s = c .before .before .before .before in
     let b = s .before .before .before .before in
     let l = b .before .loop in
     let a = b .before .before .before .args in
@@ -54,7 +54,7 @@ loop-again c =
     let l = b .before .loop in
     let a = b .before .before .before .args in
     let e : stepPair (getD (a .code .now) (2 * l .at) 0) (getD (a .code .now) (2 * l .at + 1) 0) (l .f) ≡ accepted (s .step .result .file) =
-    sym (s .step .ensures .0) ∙ rw (c .enum-told .given .1) in (
+    sym (s .step .ensures .0) ∙ rw (c .before .enum-told .given .1) in (
       omega arith,
       omega arith,
       turned (a .code .now) (l .at) (l .f) (l .left) (a .budget) (s .step .result .file) (omega arith) (omega arith) (omega arith) e
