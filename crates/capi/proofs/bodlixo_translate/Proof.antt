@@ -6,13 +6,22 @@ use Rattle.capi.proofs.bodlixo_translate.Statement.{statement}
 use Rattle.capi.proofs.bodlixo_translate.Tie as tie
 
 returns : tie.Need-returns
-returns c = let t = c .before .before .before .before .before .translate in let e = ap translationAnswer (sym (c .before .answer .given .1)) ∙ t .ensures .0 in (ap translationCode e, (ap translationAt e, t .ensures .1))
+returns c =
+    let t = c .before .before .before .before .before .translate in
+    let e = ap translationAnswer (sym (c .before .answer .given .1)) ∙ t .ensures .0 in
+    (ap translationCode e, (ap translationAt e, t .ensures .1))
 
 returns-2 : tie.Need-returns-2
-returns-2 c = let t = c .before .before .before .before .before .before .translate in let e = ap translationAnswer (sym (c .before .before .answer2 .given .1)) ∙ t .ensures .0 in (c .refusal-number .ensures ∙ ap translationCode e, (ap translationAt e, t .ensures .1))
+returns-2 c =
+    let t = c .before .before .before .before .before .before .translate in
+    let e = ap translationAnswer (sym (c .before .before .answer2 .given .1)) ∙ t .ensures .0 in
+    (c .refusal-number .ensures ∙ ap translationCode e, (ap translationAt e, t .ensures .1))
 
 returns-3 : tie.Need-returns-3
-returns-3 c = let t = c .before .before .before .before .before .before .translate in let e = ap translationAnswer (sym (c .before .before .answer3 .given .1)) ∙ t .ensures .0 in (c .refusal-number2 .ensures ∙ ap translationCode e, (ap translationAt e, t .ensures .1))
+returns-3 c =
+    let t = c .before .before .before .before .before .before .translate in
+    let e = ap translationAnswer (sym (c .before .before .answer3 .given .1)) ∙ t .ensures .0 in
+    (c .refusal-number2 .ensures ∙ ap translationCode e, (ap translationAt e, t .ensures .1))
 
 pub bodlixo-translate-spec : {M : Type 1} → statement M
 bodlixo-translate-spec =

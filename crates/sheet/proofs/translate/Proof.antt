@@ -1,5 +1,5 @@
 use Rattle.sheet.proofs.Translations.{uneven, overlong, breaks, short, all, translates, kept, kept-at, filled, each-kept}
-use Rattle.sheet.specs.Translation.{pairs, recordsOf}
+use Rattle.sheet.specs.Translation.{pairs, refusedAt, recordsOf}
 use lib.ListN.{length}
 use native.Mathlib.Omega.{arith}
 use Prim.Native.Nat.{ℕ, _+_, _*_, _^_, _<_, _≤_}
@@ -9,22 +9,47 @@ use Rattle.sheet.proofs.translate.Statement.{statement}
 use Rattle.sheet.proofs.translate.Tie as tie
 
 returns : tie.Need-returns
-returns c = let s = c .before .before .before .args .sheet .now in let out = c .before .before .before .args .out .now in let e = uneven s (length out) (c .if1 .taken) in (sym e, sym (kept s out 12 e))
+returns c =
+    let s = c .before .before .before .args .sheet .now in
+    let out = c .before .before .before .args .out .now in
+    let e = uneven s (length out) (c .if1 .taken) in
+    (sym e, sym (kept s out 12 e))
 
 returns-2 : tie.Need-returns-2
-returns-2 c = let s = c .before .before .before .before .args .sheet .now in let out = c .before .before .before .before .args .out .now in let e = overlong s (length out) (omega (arith, c .before .if1 .left)) (c .if2 .taken) in (sym e, sym (kept s out 12 e))
+returns-2 c =
+    let s = c .before .before .before .before .args .sheet .now in
+    let out = c .before .before .before .before .args .out .now in
+    let e = overlong s (length out) (omega (arith, c .before .if1 .left)) (c .if2 .taken) in
+    (sym e, sym (kept s out 12 e))
 
 returns-3 : tie.Need-returns-3
-returns-3 c = let s = c .before .before .before .before .before .before .before .args .sheet .now in let out = c .before .before .before .before .before .before .before .args .out .now in let k = c .before .before .measure .ensures .0 in let e = breaks s (length out) (omega (arith, c .before .before .before .before .if1 .left)) (omega (arith, c .before .before .before .if2 .left)) (rw k at (c .if3 .taken)) in (rw k (sym e), sym (kept-at s out 13 _ e))
+returns-3 c =
+    let s = c .before .before .before .before .before .before .before .args .sheet .now in
+    let out = c .before .before .before .before .before .before .before .args .out .now in
+    let k = c .before .before .measure .ensures .0 in
+    let e = breaks s (length out) (omega (arith, c .before .before .before .before .if1 .left)) (omega (arith, c .before .before .before .if2 .left)) (rw k at (c .if3 .taken)) in
+    (ap (refusedAt 13) k ∙ sym e, sym (kept-at s out 13 _ e))
 
 returns-4 : tie.Need-returns-4
-returns-4 c = let s = c .before .before .before .before .before .before .before .before .before .args .sheet .now in let out = c .before .before .before .before .before .before .before .before .before .args .out .now in let k = c .before .before .before .before .measure .ensures .0 in let p = c .before .before .before .before .measure .ensures .1 (c .before .before .if3 .left) in let e = short s (length out) (omega (arith, c .before .before .before .before .before .before .if1 .left)) (omega (arith, c .before .before .before .before .before .if2 .left)) (rw k at (c .before .before .if3 .left)) (omega (arith, p, c .if4 .taken)) in (sym e, sym (kept s out 14 e))
+returns-4 c =
+    let s = c .before .before .before .before .before .before .before .before .before .args .sheet .now in
+    let out = c .before .before .before .before .before .before .before .before .before .args .out .now in
+    let k = c .before .before .before .before .measure .ensures .0 in
+    let p = c .before .before .before .before .measure .ensures .1 (c .before .before .if3 .left) in
+    let e = short s (length out) (omega (arith, c .before .before .before .before .before .before .if1 .left)) (omega (arith, c .before .before .before .before .before .if2 .left)) (rw k at (c .before .before .if3 .left)) (omega (arith, p, c .if4 .taken)) in
+    (sym e, sym (kept s out 14 e))
 
 put-steps-requires : tie.Need-put-steps-requires
 put-steps-requires c κs = ((omega arith, omega (arith, c .before .before .before .before .before .before .if2 .left)), each-kept (c .before .before .before .before .before .before .before .before .before .before .args .sheet .now) _ (rw (c .before .before .before .before .before .measure .ensures .0) at (c .before .before .before .if3 .left)))
 
 returns-5 : tie.Need-returns-5
-returns-5 c = let s = c .before .before .before .before .before .before .before .before .before .before .before .before .before .args .sheet .now in let out = c .before .before .before .before .before .before .before .before .before .before .before .before .before .args .out .now in let k = c .before .before .before .before .before .before .before .before .measure .ensures .0 in let p = c .before .before .before .before .before .before .before .before .measure .ensures .1 (c .before .before .before .before .before .before .if3 .left) in let e = all s (length out) (omega (arith, c .before .before .before .before .before .before .before .before .before .before .if1 .left)) (omega (arith, c .before .before .before .before .before .before .before .before .before .if2 .left)) (rw k at (c .before .before .before .before .before .before .if3 .left)) (omega (arith, p, c .before .before .before .before .if4 .left)) in (ap pairs p ∙ sym e, filled s out (length (recordsOf s)) (translates s (length out) _ e) _ (c .before .before .put-steps .ensures .code))
+returns-5 c =
+    let s = c .before .before .before .before .before .before .before .before .before .before .before .before .before .args .sheet .now in
+    let out = c .before .before .before .before .before .before .before .before .before .before .before .before .before .args .out .now in
+    let k = c .before .before .before .before .before .before .before .before .measure .ensures .0 in
+    let p = c .before .before .before .before .before .before .before .before .measure .ensures .1 (c .before .before .before .before .before .before .if3 .left) in
+    let e = all s (length out) (omega (arith, c .before .before .before .before .before .before .before .before .before .before .if1 .left)) (omega (arith, c .before .before .before .before .before .before .before .before .before .if2 .left)) (rw k at (c .before .before .before .before .before .before .if3 .left)) (omega (arith, p, c .before .before .before .before .if4 .left)) in
+    (ap pairs p ∙ sym e, filled s out (length (recordsOf s)) (translates s (length out) _ e) _ (c .before .before .put-steps .ensures .code))
 
 pub translate-spec : {M : Type 1} → statement M
 translate-spec =

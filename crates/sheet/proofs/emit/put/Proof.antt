@@ -8,10 +8,16 @@ use Rattle.sheet.proofs.emit.put.Statement.{statement}
 use Rattle.sheet.proofs.emit.put.Tie as tie
 
 returns : tie.Need-returns
-returns c = let a = c .before .before .before .before .before .before .before .before .before .before .before .before .before .args in let e = sym (c .before .before .before .before .before .before .before .before .before .before .before .write .ensures) ∙ ap writingAnswer (c .before .before .before .before .before .before .before .before .before .w .given .1) in (rw (c .before .before .store2 .ensures, c .before .before .before .before .before .before .store .ensures) (put-one (a .i) (a .at) _ _ (a .out .now) e), omega arith)
+returns c =
+    let a = c .before .before .before .before .before .before .before .before .before .before .before .before .before .args in
+    let e = sym (c .before .before .before .before .before .before .before .before .before .before .before .write .ensures) ∙ ap writingAnswer (c .before .before .before .before .before .before .before .before .before .w .given .1) in
+    (rw (c .before .before .store2 .ensures, c .before .before .before .before .before .before .store .ensures) (put-one (a .i) (a .at) _ _ (a .out .now) e), omega arith)
 
 returns-2 : tie.Need-returns-2
-returns-2 c = let a = c .before .before .before .before .args in let e = sym (c .before .before .write .ensures) ∙ ap writingAnswer (c .enum-told .given .1) in (put-refused (a .i) (a .at) _ (a .out .now) e, omega arith)
+returns-2 c =
+    let a = c .before .before .before .before .args in
+    let e = sym (c .before .before .write .ensures) ∙ ap writingAnswer (c .enum-told .given .1) in
+    (put-refused (a .i) (a .at) _ (a .out .now) e, omega arith)
 
 pub put-spec : {M : Type 1} → statement M
 put-spec =

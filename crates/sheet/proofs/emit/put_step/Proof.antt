@@ -11,7 +11,9 @@ put-constant-requires : tie.Need-put-constant-requires
 put-constant-requires c κs = (kept-of _ (c .before .before .before .pre .0) .target, omega arith)
 
 single-requires : tie.Need-single-requires
-single-requires c κs = let h = kind-small (c .before .before .before .before .before .args .s) (c .before .before .before .before .before .pre .0) in (c .before .before .before .before .before .pre .0, (c .before .before .before .if1 .left, (c .before .before .if2 .left, omega (arith, c .before .if3 .left))))
+single-requires c κs =
+    let h = kind-small (c .before .before .before .before .before .args .s) (c .before .before .before .before .before .pre .0) in
+    (c .before .before .before .before .before .pre .0, (c .before .before .before .if1 .left, (c .before .before .if2 .left, omega (arith, c .before .if3 .left))))
 
 returns : tie.Need-returns
 unfolding pairsBy pairTable

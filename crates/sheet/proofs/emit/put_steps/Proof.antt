@@ -37,7 +37,9 @@ same-length : tie.Need-same-length Inv-loop μ-loop
 same-length c = ap length (c .before .loop .inv .1 .code) ∙ simp length-sets
 
 returns : tie.Need-returns Inv-loop μ-loop
-returns c = let e : c .before .loop .i ≡ c .before .before .before .before .args .n = omega arith in rw e at (c .before .loop .inv .1)
+returns c =
+    let e : c .before .loop .i ≡ c .before .before .before .before .args .n = omega arith in
+    rw e at (c .before .loop .inv .1)
 
 pub put-steps-spec : {M : Type 1} → statement M
 put-steps-spec =

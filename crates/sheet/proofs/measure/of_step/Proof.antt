@@ -11,7 +11,9 @@ use Rattle.sheet.proofs.measure.of_step.Tie as tie
 
 returns : tie.Need-returns
 unfolding pairsBy pairTable
-returns c = let s = c .before .before .before .args .s in (rw (c .before .before .if1 .taken) (simp length-append (omega (arith, c .before .of-half .ensures .0 (2 * s .target), c .of-half2 .ensures .0 (2 * s .target + 1)))), omega (arith, c .before .of-half .ensures .1, c .of-half2 .ensures .1))
+returns c =
+    let s = c .before .before .before .args .s in
+    (rw (c .before .before .if1 .taken) (simp length-append (omega (arith, c .before .of-half .ensures .0 (2 * s .target), c .of-half2 .ensures .0 (2 * s .target + 1)))), omega (arith, c .before .of-half .ensures .1, c .of-half2 .ensures .1))
 
 returns-2 : tie.Need-returns-2
 unfolding pairsBy pairTable
@@ -22,7 +24,9 @@ unfolding pairsBy pairTable
 returns-3 c = (rw (c .if3 .taken), omega arith)
 
 returns-4 : tie.Need-returns-4
-returns-4 c = let b = c .before .before .before in (sym (one-pair (b .args .s) (b .args .s .kind) (kind-small (b .args .s) (b .pre)) (c .before .before .if1 .left) (c .before .if2 .left) (c .if3 .left)), omega arith)
+returns-4 c =
+    let b = c .before .before .before in
+    (sym (one-pair (b .args .s) (b .args .s .kind) (kind-small (b .args .s) (b .pre)) (c .before .before .if1 .left) (c .before .if2 .left) (c .if3 .left)), omega arith)
 
 pub of-step-spec : {M : Type 1} → statement M
 of-step-spec =

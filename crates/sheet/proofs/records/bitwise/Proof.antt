@@ -19,7 +19,9 @@ returns-2 c = rw (c .before .match .keys2, c .three2 .ensures, vorr-number)
 
 returns-3 : tie.Need-returns-3
 unfolding pairsBy pairTable table
-returns-3 c = let k : c .before .before .args .s .kind ≡ 7 = omega (arith, c .before .match .rest .0, c .before .match .rest .1) in rw (k, c .three3 .ensures, veor-number)
+returns-3 c =
+    let k : c .before .before .args .s .kind ≡ 7 = omega (arith, c .before .match .rest .0, c .before .match .rest .1) in
+    rw (k, c .three3 .ensures, veor-number)
 
 pub bitwise-spec : {M : Type 1} → statement M
 bitwise-spec =

@@ -11,15 +11,21 @@ use Rattle.sheet.proofs.records.ordering.Tie as tie
 
 returns : tie.Need-returns
 unfolding pairsBy pairTable table
-returns c = let k = c .before .before .match .keys1 in rw (k, c .three .ensures, c .before .by-sign .ensures, max-number (c .before .before .before .args .s .sign) (c .before .before .before .args .s .width) (kept-at _ 11 (c .before .before .before .pre .0) k .width))
+returns c =
+    let k = c .before .before .match .keys1 in
+    rw (k, c .three .ensures, c .before .by-sign .ensures, max-number (c .before .before .before .args .s .sign) (c .before .before .before .args .s .width) (kept-at _ 11 (c .before .before .before .pre .0) k .width))
 
 returns-2 : tie.Need-returns-2
 unfolding pairsBy pairTable table
-returns-2 c = let k = c .before .before .match .keys2 in rw (k, c .three2 .ensures, c .before .by-sign2 .ensures, min-number (c .before .before .before .args .s .sign) (c .before .before .before .args .s .width) (kept-at _ 12 (c .before .before .before .pre .0) k .width))
+returns-2 c =
+    let k = c .before .before .match .keys2 in
+    rw (k, c .three2 .ensures, c .before .by-sign2 .ensures, min-number (c .before .before .before .args .s .sign) (c .before .before .before .args .s .width) (kept-at _ 12 (c .before .before .before .pre .0) k .width))
 
 returns-3 : tie.Need-returns-3
 unfolding pairsBy pairTable table
-returns-3 c = let k : c .before .before .before .args .s .kind ≡ 13 = omega (arith, c .before .before .match .rest .0, c .before .before .match .rest .1) in rw (k, c .three3 .ensures, c .before .by-sign3 .ensures, greater-number (c .before .before .before .args .s .sign) (c .before .before .before .args .s .width) (kept-at _ 13 (c .before .before .before .pre .0) k .width))
+returns-3 c =
+    let k : c .before .before .before .args .s .kind ≡ 13 = omega (arith, c .before .before .match .rest .0, c .before .before .match .rest .1) in
+    rw (k, c .three3 .ensures, c .before .by-sign3 .ensures, greater-number (c .before .before .before .args .s .sign) (c .before .before .before .args .s .width) (kept-at _ 13 (c .before .before .before .pre .0) k .width))
 
 pub ordering-spec : {M : Type 1} → statement M
 ordering-spec =

@@ -13,15 +13,21 @@ use Rattle.sheet.proofs.records.shift.Tie as tie
 
 returns : tie.Need-returns
 unfolding pairsBy pairTable table
-returns c = let k = c .before .before .if1 .taken in rw (k, c .three .ensures, c .before .before .before .before .number .ensures, left-number _ (kept-at _ 9 (c .before .before .before .before .before .before .pre .0) k .width))
+returns c =
+    let k = c .before .before .if1 .taken in
+    rw (k, c .three .ensures, c .before .before .before .before .number .ensures, left-number _ (kept-at _ 9 (c .before .before .before .before .before .before .pre .0) k .width))
 
 returns-2 : tie.Need-returns-2
 unfolding pairsBy pairTable table
-returns-2 c = let k : c .before .before .before .before .before .before .before .args .s .kind ≡ 10 = omega (arith, c .before .before .before .if1 .left) in rw (k, eq-eqb _ 0 (c .before .if2 .taken)) (ap (λ i. i ∷ []) (c .copy .ensures))
+returns-2 c =
+    let k : c .before .before .before .before .before .before .before .args .s .kind ≡ 10 = omega (arith, c .before .before .before .if1 .left) in
+    rw (k, eq-eqb _ 0 (c .before .if2 .taken)) (ap (λ i. i ∷ []) (c .copy .ensures))
 
 returns-3 : tie.Need-returns-3
 unfolding pairsBy pairTable table
-returns-3 c = let k : c .before .before .before .before .before .before .before .before .args .s .kind ≡ 10 = omega (arith, c .before .before .before .before .if1 .left) in rw (k, c .three2 .ensures, c .before .before .before .before .before .before .number .ensures, c .before .by-sign .ensures, ne-eqb _ 0 (c .before .before .if2 .left), right-number _ _ (kept-at _ 10 (c .before .before .before .before .before .before .before .before .pre .0) k .width))
+returns-3 c =
+    let k : c .before .before .before .before .before .before .before .before .args .s .kind ≡ 10 = omega (arith, c .before .before .before .before .if1 .left) in
+    rw (k, c .three2 .ensures, c .before .before .before .before .before .before .number .ensures, c .before .by-sign .ensures, ne-eqb _ 0 (c .before .before .if2 .left), right-number _ _ (kept-at _ 10 (c .before .before .before .before .before .before .before .before .pre .0) k .width))
 
 pub shift-spec : {M : Type 1} → statement M
 shift-spec =

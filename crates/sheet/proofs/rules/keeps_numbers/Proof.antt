@@ -9,7 +9,9 @@ use Rattle.sheet.proofs.rules.keeps_numbers.Tie as tie
 
 returns : tie.Need-returns
 unfolding keepsNumbers
-returns c = let k = c .before .before .before .before .before .before .args .s .kind in rw (c .before .before .amounts .ensures, c .before .before .before .keeps-word2 .ensures, c .before .before .before .before .keeps-word .ensures, sign-column k (search needs))
+returns c =
+    let k = c .before .before .before .before .before .before .args .s .kind in
+    rw (c .before .before .amounts .ensures, c .before .before .before .keeps-word2 .ensures, c .before .before .before .before .keeps-word .ensures, sign-column k (search needs))
 
 pub keeps-numbers-spec : {M : Type 1} → statement M
 keeps-numbers-spec =

@@ -9,7 +9,10 @@ use Rattle.sheet.proofs.rules.keeps_rows.Tie as tie
 
 returns : tie.Need-returns
 unfolding keepsRows
-returns c = let k = c .before .before .before .before .before .before .args .s .kind in let h : k < 15 = search needs in simp (sym (a-column k h), sym (b-column k h), sym (c-column k h), sym (width-column k h))
+returns c =
+    let k = c .before .before .before .before .before .before .args .s .kind in
+    let h : k < 15 = search needs in
+    simp (sym (a-column k h), sym (b-column k h), sym (c-column k h), sym (width-column k h))
 
 pub keeps-rows-spec : {M : Type 1} → statement M
 keeps-rows-spec =
