@@ -1,13 +1,11 @@
 -- A record that is written does, as a pair, what it does as a record: demand 2 over meanings.
 -- Assumes nothing.
 use mathlib.Core.Path.{_≡_, refl, sym, ap, _∙_}
-use mathlib.Core.Bool.{Bool, true, false, not}
+use mathlib.Core.Bool.{Bool, true, false}
 use Prim.Native.Nat.{ℕ}
-use lib.Dec.{eqb}
 use lib.Text.{eqt}
 use borrow.Author.Tests.{eqb-true}
 use Rattle.laws.specs.Answer.{Answer, accepted}
-use Rattle.laws.specs.Choice.{choose}
 use Rattle.insn.specs.declared.Insn.{Insn}
 use Rattle.insn.specs.declared.Mark.{Mark}
 use Rattle.insn.specs.declared.Mark.the-variants.{T1}
@@ -16,17 +14,15 @@ use Rattle.insn.specs.declared.Operand.the-variants.{D, Q, S, Imm, Float, Other
 use Rattle.insn.specs.Record.{placeAt}
 use Rattle.tables.specs.Names.{names, nameOf, numberOf}
 use Rattle.decode.specs.Operands.{both, insn}
-use Rattle.decode.specs.Reading.{reading}
 use Rattle.encode.specs.Forms.{pair}
-use Rattle.encode.specs.Promises.{ReadsAs}
-use Rattle.encode.specs.Spelling.{Spelling, Held, spelled, sameRegister, isZero, movedName, renamed, canonical}
+use Rattle.encode.specs.Spelling.{Spelling, Held, spelled, sameRegister, movedName, renamed, canonical}
 use Rattle.encode.specs.Writing.{writing}
 use Rattle.encode.proofs.Canonical.{spelt, as-spelt, as-vmov}
 use Rattle.encode.proofs.Promises.{writtenThenRead}
 use Rattle.encode.proofs.Tests.{wrong, both-true, same-text}
 use Rattle.machine.specs.File.{File}
 use Rattle.machine.specs.Meaning.{meaningOf}
-use Rattle.machine.specs.Step.{stepBy, stepInsn, stepRead, stepPair}
+use Rattle.machine.specs.Step.{stepInsn, stepRead, stepPair}
 use Rattle.machine.proofs.Promises.{copyAlias}
 
 same-register : (x y : Operand) → sameRegister x y ≡ true → y ≡ x

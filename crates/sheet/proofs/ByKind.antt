@@ -1,62 +1,42 @@
 -- A step of each kind: its pairs are written, and do these operations.
 -- Assumes nothing.
-use mathlib.Core.Path.{_≡_, refl, sym, _∙_, ap}
+use mathlib.Core.Path.{_≡_, refl}
 use mathlib.Core.Bool.{Bool, true, false}
 use mathlib.Core.Logic.{_≢_}
 use mathlib.Core.List.{List, [], _∷_, _++_}
-use Prim.Native.Nat.{ℕ, zero, suc, _+_, _-_, _*_, _/_, _%_, _^_, _≤_, _<_}
-use native.Mathlib.Nat.{mod-eq-of-lt, lt-of-lt-of-le}
+use Prim.Native.Nat.{ℕ, _+_, _*_, _≤_, _<_}
 use native.Mathlib.Omega.{arith}
-use lib.Bits.{bitAnd, bitOr, bitXor, or-zero-l}
 use Prim.Native.String.{String}
-use lib.Dec.{eqb, ltb, lit<}
-use lib.IntN.{ℤ, pos, negsuc}
-use lib.ListN.{length, getD, set, take, length-append}
-use lib.Seq.{take-set-lt, take-set-le, getD-take, getD-set-same, getD-set-other, set-set}
-use lib.Signed.{shrZ}
-use native.Mathlib.Nat.{div-one}
-use borrow.Author.Tests.{eqb-true, eqb-false, ltb-true}
+use lib.Dec.{eqb, lit<}
+use lib.ListN.{length, getD, length-append}
+use borrow.Author.Tests.{eqb-false}
 use Rattle.laws.specs.Choice.{choose}
-use Rattle.laws.proofs.Range.{values, agree}
-use Rattle.insn.specs.declared.Insn.{Insn}
 use Rattle.insn.specs.declared.Operand.{Operand}
 use Rattle.insn.specs.declared.Operand.the-variants.{Q}
-use Rattle.tables.specs.declared.ShiftClass.the-variants as class
-use Rattle.lanes.specs.Lane.{readAs, modulo, laneOf, lanewise, bitsOf, lanesOf}
-use Rattle.lanes.specs.declared.LaneOp.{LaneOp}
 use Rattle.lanes.specs.declared.LaneOp.the-variants.{Add, Sub, Mul, Max, Min, Cgt, Shl, Shr}
-use Rattle.lanes.specs.declared.Sign.{Sign}
-use Rattle.lanes.specs.declared.Width.{Width}
 use Rattle.lanes.specs.declared.Width.the-variants.{B32}
-use Rattle.lanes.proofs.Lanewise.{same, kept}
-use Rattle.lanes.proofs.Promises.{readBack}
-use Rattle.machine.specs.declared.operations.BitOp.{BitOp}
 use Rattle.machine.specs.declared.operations.BitOp.the-variants.{And, Orr, Eor, Orn, Mov, Bsl}
 use Rattle.machine.specs.declared.operations.ConstantOp.the-variants as constant
 use Rattle.machine.specs.declared.operations.Operation.{Operation}
 use Rattle.machine.specs.declared.operations.Operation.the-variants.{Lanes, Bits, Constant}
 use Rattle.machine.specs.declared.forms.Form.{Form}
-use Rattle.machine.specs.File.{File, Good}
 use Rattle.machine.specs.Forms.{widthAt}
-use Rattle.machine.specs.Meaning.{Act, act, registers, repeated, on, countOf, meaningIn}
-use Rattle.machine.specs.Operations.{valueOf, Sized}
-use Rattle.machine.specs.Step.{effect}
+use Rattle.machine.specs.Meaning.{Act, repeated, on, countOf, meaningIn}
+use Rattle.machine.specs.Operations.{Sized}
 use Rattle.machine.proofs.Actions.{repeated-lt}
-use Rattle.machine.proofs.Steps.{effect-good}
 use Rattle.sheet.specs.declared.steps.Step.{Step}
-use Rattle.sheet.specs.Meaning.{paired, rowsOf, row, signOf, eachLane, inverted}
-use Rattle.sheet.specs.Meaning as sheet
+use Rattle.sheet.specs.Meaning.{row, signOf}
 use Rattle.sheet.specs.Naming.{sized, signed}
 use Rattle.sheet.specs.Pairs.{two, three, number, halfPairs, pairTable, pairsBy}
-use Rattle.sheet.specs.Rules.{bits, Uses, table, usesOf}
+use Rattle.sheet.specs.Rules.{table, usesOf}
 use Rattle.sheet.proofs.Carried.{bits-small, left-carried, right-carried, set-carried}
-use Rattle.sheet.proofs.Constant.{halfActs, half-does, half-few, constant-left}
-use Rattle.sheet.proofs.Doing.{doing, Does, does-append, doing-cons, doing-nil, doing-good}
+use Rattle.sheet.proofs.Constant.{halfActs, half-does, half-few}
+use Rattle.sheet.proofs.Doing.{Does, does-append}
 use Rattle.sheet.proofs.Each.{each}
 use Rattle.sheet.proofs.Executes.{Is, quad-is, Known, three-executes, copy-executes, shift-executes, number-executes}
 use Rattle.sheet.proofs.Kept.{Kept}
 use Rattle.sheet.proofs.Names.{add-known, sub-known, mul-known, max-known, min-known, greater-known, and-known, orr-known, eor-known, orn-known, bsl-known, left-known, right-known, set-word-known}
-use Rattle.sheet.proofs.Rows.{quad, quad-row, one, paired-length, row-lt}
+use Rattle.sheet.proofs.Rows.{quad, one}
 
 -- the operations of a step of each kind
 unfoldable pub actTable : Step → ℕ → ℕ → ℕ → ℕ → List (List Act)

@@ -1,20 +1,19 @@
 -- The constant's recipe: its pairs are written, and they leave the constant in its half.
 -- Assumes nothing.
-use mathlib.Core.Path.{_≡_, refl, sym, _∙_, ap}
+use mathlib.Core.Path.{_≡_, refl, _∙_, ap}
 use mathlib.Core.Bool.{Bool, true, false}
 use mathlib.Core.Logic.{_≢_}
 use mathlib.Core.List.{List, [], _∷_, _++_}
-use Prim.Native.Nat.{ℕ, zero, suc, _+_, _-_, _*_, _/_, _%_, _^_, _≤_, _<_}
+use Prim.Native.Nat.{ℕ, _+_, _*_, _/_, _%_, _^_, _≤_, _<_}
 use native.Mathlib.Nat.{mod-eq-of-lt, zero-mul, lt-of-lt-of-le, add-zero}
 use native.Mathlib.Omega.{arith}
-use lib.Bits.{bitAnd, bitOr, or-block, or-shifted-r, or-zero-r, and-mask, and-high}
+use lib.Bits.{bitOr, or-block, or-shifted-r, or-zero-r, and-mask, and-high}
 use lib.Dec.{eqb, lit<}
 use lib.ListN.{length, getD, set, take, length-set, length-append}
 use lib.Pow.{pow-mono, low, high}
 use lib.Seq.{take-set-lt, take-set-le, getD-set-same, getD-set-other, set-set, length-take-le}
 use borrow.Author.Tests.{eqb-true, eqb-false}
 use Rattle.laws.specs.Choice.{choose}
-use Rattle.insn.specs.declared.Insn.{Insn}
 use Rattle.insn.specs.declared.Operand.the-variants.{D}
 use Rattle.lanes.specs.declared.Width.the-variants.{B32, B64}
 use Rattle.machine.specs.declared.operations.BitOp.the-variants.{Bif}
@@ -26,8 +25,8 @@ use Rattle.machine.specs.Meaning.{Act, act, registers, repeated, meaningIn}
 use Rattle.machine.specs.Operations.{bitwise, valueOf}
 use Rattle.machine.specs.Step.{effect}
 use Rattle.machine.proofs.Actions.{repeated-lt}
-use Rattle.sheet.specs.Meaning.{paired, rowsOf}
-use Rattle.sheet.specs.Pairs.{two, three, number, byteOf, addByte, wordPairs, joined, halfPairs}
+use Rattle.sheet.specs.Meaning.{rowsOf}
+use Rattle.sheet.specs.Pairs.{two, number, byteOf, addByte, wordPairs, joined, halfPairs}
 use Rattle.sheet.proofs.Carried.{set-carried, join-carried, mask-carried}
 use Rattle.sheet.proofs.Doing.{doing, Does, does-append, doing-cons, doing-nil, doing-append}
 use Rattle.sheet.proofs.Executes.{double-is, three-executes, number-executes}

@@ -1,22 +1,21 @@
 -- Records one after another: their halfwords, and what these do to a file.
 -- Assumes nothing.
-use mathlib.Core.Path.{_≡_, refl, sym, ap, _∙_}
+use mathlib.Core.Path.{_≡_, refl}
 use mathlib.Core.List.{List, [], _∷_, _++_}
-use Prim.Native.Nat.{ℕ, zero, suc, _+_, _*_}
+use Prim.Native.Nat.{_+_, _*_}
 use native.Mathlib.Omega.{arith}
 use lib.ListN.{length}
-use Rattle.laws.specs.Answer.{Answer, accepted, andThen}
+use Rattle.laws.specs.Answer.{accepted}
 use Rattle.insn.specs.declared.Insn.{Insn}
-use Rattle.encode.specs.Writing.{writing}
 use Rattle.machine.specs.declared.operations.Operation.{Operation}
 use Rattle.machine.specs.declared.meanings.Registers.{Registers}
 use Rattle.machine.specs.File.{File, Good}
 use Rattle.machine.specs.Meaning.{Act, act}
 use Rattle.machine.specs.Operations.{Sized}
 use Rattle.machine.specs.Run.{steps}
-use Rattle.machine.specs.Step.{effect, stepPair}
+use Rattle.machine.specs.Step.{effect}
 use Rattle.machine.proofs.Steps.{effect-good}
-use Rattle.sheet.specs.Pairs.{halves, codeOf}
+use Rattle.sheet.specs.Pairs.{codeOf}
 use Rattle.sheet.proofs.Executes.{Executes}
 
 -- what operations leave, one after another

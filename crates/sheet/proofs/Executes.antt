@@ -1,25 +1,22 @@
 -- Records whose pair is written, and does an operation on registers.
 -- Assumes nothing.
-use mathlib.Core.Path.{_≡_, refl, sym, ap, _∙_}
+use mathlib.Core.Path.{_≡_, refl, ap, _∙_}
 use mathlib.Core.Bool.{Bool, true, false, Bool·beq}
 use Prim.Native.Nat.{ℕ, _*_, _/_, _≤_, _<_}
 use Prim.Native.String.{String}
-use lib.Dec.{eqb, ltb, leb}
 use lib.IntN.{pos}
 use lib.ListN.{getD}
 use lib.Text.{eqt}
 use borrow.Author.Tests.{lt-ltb, le-leb}
-use Rattle.laws.specs.Answer.{Answer, accepted, refused, andThen}
+use Rattle.laws.specs.Answer.{accepted}
 use Rattle.laws.specs.Choice.{choose}
 use Rattle.insn.specs.declared.Insn.{Insn}
-use Rattle.insn.specs.declared.Mark.the-variants.{T1}
 use Rattle.insn.specs.declared.Operand.{Operand}
 use Rattle.insn.specs.declared.Operand.the-variants.{D, Q, Imm, Absent}
 use Rattle.insn.specs.Record.{placeAt}
-use Rattle.tables.specs.declared.home.Home.{Home}
-use Rattle.tables.specs.declared.home.Home.the-variants.{Same3, Shift, Vmovl, Modimm, Diff, Vmov, Nowhere}
+use Rattle.tables.specs.declared.home.Home.the-variants.{Same3, Shift, Modimm, Vmov}
 use Rattle.tables.specs.declared.ShiftClass.{ShiftClass}
-use Rattle.tables.specs.declared.ShiftClass.the-variants.{Right, Left}
+use Rattle.tables.specs.declared.ShiftClass.the-variants.{Right}
 use Rattle.tables.specs.Diff.{diffRows, diffCells}
 use Rattle.tables.specs.Home.{placeIn, otherHome, homeOf}
 use Rattle.tables.specs.Modimm.{modimm}
@@ -27,9 +24,8 @@ use Rattle.tables.specs.Names.{flat, names, nameOf, numberOf, pairwise}
 use Rattle.tables.specs.Same3.{same3}
 use Rattle.tables.specs.Shift.{shiftClasses, shiftRows, shiftCells, vmovl}
 use Rattle.fields.specs.Halfwords.{field}
-use Rattle.fields.specs.Registers.{Bits, bits, vecBits}
+use Rattle.fields.specs.Registers.{bits, vecBits}
 use Rattle.immediates.specs.Signed.{patternOf}
-use Rattle.decode.specs.Operands.{both, insn}
 use Rattle.decode.specs.Same3.{shiftsByRegister}
 use Rattle.encode.specs.Forms.{Pair, pair, isQuad, isNumber, registerIn, allThree}
 use Rattle.encode.specs.Modimm.{immediateIn, modimmPair, modimmWriting}
@@ -39,7 +35,6 @@ use Rattle.encode.specs.Spelling.{Held, movedName}
 use Rattle.encode.specs.Writing.{writing}
 use Rattle.encode.proofs.Canonical.{hw1Of, hw2Of}
 use Rattle.encode.proofs.Tests.{both-no}
-use Rattle.lanes.specs.declared.LaneOp.{LaneOp}
 use Rattle.lanes.specs.declared.Width.{Width}
 use Rattle.machine.specs.declared.operations.BitOp.the-variants.{Mov}
 use Rattle.machine.specs.declared.operations.ConstantOp.{ConstantOp}
@@ -51,8 +46,8 @@ use Rattle.machine.specs.declared.forms.Form.the-variants as form
 use Rattle.machine.specs.declared.meanings.Registers.{Registers}
 use Rattle.machine.specs.File.{File}
 use Rattle.machine.specs.Forms.{groups, rows, formOf}
-use Rattle.machine.specs.Meaning.{Act, act, registers, acting, on, wholePattern, repeated, shiftBy, countOf, meaningIn, meaningOf}
-use Rattle.machine.specs.Step.{effect, stepBy, stepInsn, stepPair}
+use Rattle.machine.specs.Meaning.{act, registers, acting, on, wholePattern, repeated, shiftBy, countOf, meaningIn, meaningOf}
+use Rattle.machine.specs.Step.{effect, stepBy, stepPair}
 use Rattle.sheet.specs.Pairs.{two, three}
 use Rattle.sheet.proofs.Back.{three-back, two-back}
 

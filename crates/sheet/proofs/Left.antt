@@ -2,21 +2,20 @@
 -- Assumes nothing.
 use mathlib.Core.Path.{_≡_, refl, sym, _∙_, ap}
 use mathlib.Core.Bool.{Bool, true, false}
-use mathlib.Core.List.{List, [], _∷_, _++_}
-use Prim.Native.Nat.{ℕ, zero, suc, _+_, _-_, _*_, _/_, _%_, _^_, _≤_, _<_}
-use native.Mathlib.Nat.{mod-eq-of-lt, mod-lt, div-one}
+use mathlib.Core.List.{List, [], _∷_}
+use Prim.Native.Nat.{ℕ, _*_, _/_, _^_, _<_}
+use native.Mathlib.Nat.{mod-eq-of-lt, div-one}
 use native.Mathlib.Omega.{arith}
-use lib.Bits.{bitAnd, bitOr, bitXor, or-zero-l}
+use lib.Bits.{bitAnd, bitOr, or-zero-l}
 use lib.Dec.{eqb, lit<}
 use lib.IntN.{ℤ, pos, negsuc}
-use lib.ListN.{length, getD, set, take}
-use lib.Pow.{pow-pos}
+use lib.ListN.{length, set}
 use lib.Seq.{take-set-lt, take-set-le, getD-take, getD-set-same, getD-set-other, set-set}
 use lib.Signed.{shrZ}
 use borrow.Author.Tests.{eqb-true}
 use Rattle.laws.specs.Choice.{choose}
 use Rattle.laws.proofs.Range.{values, agree}
-use Rattle.lanes.specs.Lane.{readAs, modulo, laneOf, lanewise, bitsOf, lanesOf}
+use Rattle.lanes.specs.Lane.{readAs, modulo, laneOf, bitsOf, lanesOf}
 use Rattle.lanes.specs.declared.LaneOp.{LaneOp}
 use Rattle.lanes.specs.declared.LaneOp.the-variants.{Add, Sub, Mul, Max, Min, Cgt, Shl, Shr}
 use Rattle.lanes.specs.declared.Sign.{Sign}
@@ -25,7 +24,6 @@ use Rattle.lanes.proofs.Lanewise.{same, kept}
 use Rattle.lanes.proofs.Promises.{readBack}
 use Rattle.machine.specs.declared.operations.BitOp.the-variants.{And, Orr, Eor, Orn, Mov, Bsl}
 use Rattle.machine.specs.declared.operations.ConstantOp.the-variants as constant
-use Rattle.machine.specs.declared.operations.Operation.{Operation}
 use Rattle.machine.specs.declared.operations.Operation.the-variants.{Lanes, Bits, Constant}
 use Rattle.machine.specs.File.{File, Good}
 use Rattle.machine.specs.Forms.{widthAt}

@@ -1,16 +1,15 @@
 -- The names that a sheet is translated to: where they stand and what they mean, as antt computes it.
 -- Assumes nothing.
-use mathlib.Core.Path.{_≡_, refl, sym, ap, _∙_, subst}
+use mathlib.Core.Path.{_≡_, refl}
 use mathlib.Core.Bool.{Bool, true, false}
-use Prim.Native.Nat.{ℕ, _+_, _*_, _/_, _<_}
+use Prim.Native.Nat.{ℕ, _+_, _/_, _<_}
 use Prim.Native.String.{String, _++_}
 use lib.Dec.{eqb}
 use lib.ListN.{getD}
 use lib.Text.{eqt}
 use Rattle.laws.specs.Choice.{choose}
 use Rattle.laws.proofs.Range.{values, agree}
-use Rattle.tables.specs.declared.home.Home.{Home}
-use Rattle.tables.specs.declared.home.Home.the-variants.{Same3, Shift, Modimm}
+use Rattle.tables.specs.declared.home.Home.the-variants.{Same3, Shift}
 use Rattle.tables.specs.declared.ShiftClass.{ShiftClass}
 use Rattle.tables.specs.declared.ShiftClass.the-variants.{Right, Left}
 use Rattle.tables.specs.Diff.{diffRows, diffCells}
@@ -21,7 +20,6 @@ use Rattle.tables.specs.Same3.{same3}
 use Rattle.tables.specs.Shift.{shiftClasses, shiftRows, shiftCells, vmovl}
 use Rattle.fields.specs.Halfwords.{field}
 use Rattle.encode.specs.Spelling.{movedName}
-use Rattle.lanes.specs.declared.LaneOp.{LaneOp}
 use Rattle.lanes.specs.declared.LaneOp.the-variants.{Add, Sub, Mul, Max, Min, Cgt}
 use Rattle.lanes.specs.declared.Sign.{Sign}
 use Rattle.lanes.specs.declared.Sign.the-variants.{Unsigned, Signed}

@@ -1,8 +1,8 @@
 -- A register file as rows, and an operation on quadwords as one store to a row.
 -- Assumes nothing.
-use mathlib.Core.Path.{_≡_, refl, sym, _∙_, ap}
+use mathlib.Core.Path.{_≡_, refl, ap}
 use mathlib.Core.Bool.{true}
-use mathlib.Core.List.{List, [], _∷_}
+use mathlib.Core.List.{[], _∷_}
 use Prim.Native.Nat.{ℕ, zero, suc, _+_, _*_, _/_, _%_, _^_, _<_}
 use native.Mathlib.Nat.{add-comm, mul-comm}
 use native.Mathlib.Omega.{arith}
@@ -10,7 +10,7 @@ use lib.Arith.{digits-lt}
 use lib.ListN.{length, getD, set, take}
 use lib.Seq.{take-set-lt, getD-take}
 use Rattle.machine.specs.declared.operations.Operation.{Operation}
-use Rattle.machine.specs.File.{File, Good, readQ, writeQ}
+use Rattle.machine.specs.File.{File, Good, readQ}
 use Rattle.machine.specs.Meaning.{Act, act, registers}
 use Rattle.machine.specs.Operations.{valueOf, Sized}
 use Rattle.machine.specs.Step.{effect}

@@ -1,21 +1,21 @@
 -- The cases of a translation.
 -- Assumes nothing.
-use mathlib.Core.Path.{_≡_, refl, sym, _∙_, ap, subst}
+use mathlib.Core.Path.{_≡_, refl, sym, _∙_, ap}
 use mathlib.Core.Bool.{Bool, true, false, not}
-use mathlib.Core.List.{List, [], _∷_, _++_}
-use Prim.Native.Nat.{ℕ, zero, suc, _+_, _-_, _*_, _/_, _%_, _≤_, _<_}
+use mathlib.Core.List.{List, _++_}
+use Prim.Native.Nat.{ℕ, _+_, _*_, _/_, _%_, _≤_, _<_}
 use native.Mathlib.Nat.{zero-add}
 use native.Mathlib.Omega.{arith}
-use lib.Dec.{T, eqb, ltb}
+use lib.Dec.{eqb, ltb}
 use lib.ListN.{length, take, drop}
 use lib.Seq.{sets, sets-eq, take-at}
 use borrow.Author.Tests.{eq-eqb, ne-eqb, lt-ltb, le-ltb, eqb-true, ltb-false}
 use Rattle.laws.specs.Choice.{choose}
-use Rattle.sheet.specs.Demand3.{AllKeep, Translates}
-use Rattle.sheet.specs.Pairs.{pairsOf, codeOf}
+use Rattle.sheet.specs.Demand3.{Translates}
+use Rattle.sheet.specs.Pairs.{codeOf}
 use Rattle.sheet.specs.Rules.{keeps, firstBroken}
 use Rattle.sheet.specs.Steps.{stepAt, stepsFrom, stepsOf}
-use Rattle.sheet.specs.Translation.{Translated, pairs, refused, refusedAt, recordsOf, translationOf, writtenBy, writtenOf}
+use Rattle.sheet.specs.Translation.{pairs, refused, refusedAt, recordsOf, translationOf, writtenBy, writtenOf}
 use Rattle.sheet.proofs.Doing.{code-length}
 use Rattle.sheet.proofs.Sheets.{actsOf, sheet-does}
 use Rattle.sheet.proofs.Stepping.{steps-length, all-keep, each-keeps, keep-all}

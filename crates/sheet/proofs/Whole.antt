@@ -1,13 +1,13 @@
 -- Demand 3 over the definitions.
 -- Assumes nothing.
 use mathlib.Core.Path.{_≡_, refl, sym, _∙_, ap, subst}
-use mathlib.Core.List.{List, _++_}
-use Prim.Native.Nat.{ℕ, _*_, _%_, _^_, _≤_, _<_}
+use mathlib.Core.List.{List}
+use Prim.Native.Nat.{ℕ, _*_, _^_, _≤_, _<_}
 use native.Mathlib.Omega.{arith}
-use lib.ListN.{length, getD, take, drop}
+use lib.ListN.{length, getD, take}
 use Rattle.laws.specs.Answer.{accepted}
-use Rattle.machine.specs.File.{File, Good}
-use Rattle.machine.specs.Run.{Run, done, runPairs, runOf, steps}
+use Rattle.machine.specs.File.{File}
+use Rattle.machine.specs.Run.{Run, done, runOf, steps}
 use Rattle.machine.proofs.Promises.{runKept}
 use Rattle.machine.proofs.Runs.{all-run, runs-from-start}
 use Rattle.sheet.specs.Demand3.{Translates, doneAfter, Refuses, Demand3}

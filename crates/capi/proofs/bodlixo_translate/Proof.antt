@@ -1,7 +1,9 @@
-use Rattle.capi.specs.Codes.{translationCode, translationAt}
-use Rattle.sheet.specs.Answers.{translationAnswer}
-use mathlib.Core.Path.{_≡_, refl, sym, _∙_, ap}
+-- `capi::bodlixo_translate` meets its contract.
+-- Assumes nothing.
+use mathlib.Core.Path.{sym, _∙_, ap}
 use borrow.Author.Needs.{needs}
+use Rattle.sheet.specs.Answers.{translationAnswer}
+use Rattle.capi.specs.Codes.{translationCode, translationAt}
 use Rattle.capi.proofs.bodlixo_translate.Statement.{statement}
 use Rattle.capi.proofs.bodlixo_translate.Tie as tie
 

@@ -1,10 +1,11 @@
-use Rattle.sheet.proofs.Whole.{after-run, after-refusal, after-refusal-at, prefix}
-use Rattle.sheet.specs.Answers.{translationAnswer}
-use lib.Seq.{length-take-le}
+-- `sheet::evaluate` meets its contract.
+-- Assumes nothing.
+use mathlib.Core.Path.{sym, _∙_, ap}
 use native.Mathlib.Omega.{arith}
-use Prim.Native.Nat.{ℕ, _+_, _*_, _^_, _<_, _≤_}
-use mathlib.Core.Path.{_≡_, refl, sym, _∙_, ap}
+use lib.Seq.{length-take-le}
 use borrow.Author.Needs.{needs}
+use Rattle.sheet.specs.Answers.{translationAnswer}
+use Rattle.sheet.proofs.Whole.{after-run, after-refusal, after-refusal-at, prefix}
 use Rattle.sheet.proofs.evaluate.Statement.{statement}
 use Rattle.sheet.proofs.evaluate.Tie as tie
 

@@ -1,10 +1,11 @@
-use Rattle.sheet.proofs.Translations.{uneven, overlong, breaks, short, all, translates, kept, kept-at, filled, each-kept}
-use Rattle.sheet.specs.Translation.{pairs, refusedAt, recordsOf}
-use lib.ListN.{length}
+-- `sheet::translate` meets its contract.
+-- Assumes nothing.
+use mathlib.Core.Path.{sym, _∙_, ap}
 use native.Mathlib.Omega.{arith}
-use Prim.Native.Nat.{ℕ, _+_, _*_, _^_, _<_, _≤_}
-use mathlib.Core.Path.{_≡_, refl, sym, _∙_, ap}
+use lib.ListN.{length}
 use borrow.Author.Needs.{needs}
+use Rattle.sheet.specs.Translation.{pairs, refusedAt, recordsOf}
+use Rattle.sheet.proofs.Translations.{uneven, overlong, breaks, short, all, translates, kept, kept-at, filled, each-kept}
 use Rattle.sheet.proofs.translate.Statement.{statement}
 use Rattle.sheet.proofs.translate.Tie as tie
 

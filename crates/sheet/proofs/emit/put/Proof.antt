@@ -1,9 +1,10 @@
+-- `sheet::emit::put` meets its contract.
+-- Assumes nothing.
+use mathlib.Core.Path.{sym, _∙_, ap}
+use native.Mathlib.Omega.{arith}
+use borrow.Author.Needs.{needs}
 use Rattle.encode.specs.Answers.{writingAnswer}
 use Rattle.sheet.proofs.Puts.{put-one, put-refused}
-use native.Mathlib.Omega.{arith}
-use Prim.Native.Nat.{ℕ, _+_, _*_, _^_, _<_, _≤_}
-use mathlib.Core.Path.{_≡_, refl, sym, _∙_, ap}
-use borrow.Author.Needs.{needs}
 use Rattle.sheet.proofs.emit.put.Statement.{statement}
 use Rattle.sheet.proofs.emit.put.Tie as tie
 

@@ -1,10 +1,10 @@
+-- `sheet::emit::put_byte` meets its contract.
+-- Assumes nothing.
+use native.Mathlib.Omega.{arith}
+use borrow.Author.Needs.{needs}
+use borrow.Author.Tests.{eq-eqb, ne-eqb}
 use Rattle.sheet.specs.Pairs.{addByte}
 use Rattle.sheet.proofs.Puts.{put-none}
-use borrow.Author.Tests.{eq-eqb, ne-eqb}
-use native.Mathlib.Omega.{arith}
-use Prim.Native.Nat.{ℕ, _+_, _*_, _^_, _<_, _≤_}
-use mathlib.Core.Path.{_≡_, refl, sym, _∙_, ap}
-use borrow.Author.Needs.{needs}
 use Rattle.sheet.proofs.emit.put_byte.Statement.{statement}
 use Rattle.sheet.proofs.emit.put_byte.Tie as tie
 

@@ -1,10 +1,10 @@
+-- `sheet::emit::put_half` meets its contract.
+-- Assumes nothing.
+use native.Mathlib.Omega.{arith}
+use borrow.Author.Needs.{needs}
+use borrow.Author.Tests.{eq-eqb, ne-eqb}
 use Rattle.sheet.specs.Pairs.{halfPairs}
 use Rattle.sheet.proofs.Puts.{put-then}
-use borrow.Author.Tests.{eq-eqb, ne-eqb}
-use native.Mathlib.Omega.{arith}
-use Prim.Native.Nat.{ℕ, _+_, _*_, _^_, _<_, _≤_}
-use mathlib.Core.Path.{_≡_, refl, sym, _∙_, ap}
-use borrow.Author.Needs.{needs}
 use Rattle.sheet.proofs.emit.put_half.Statement.{statement}
 use Rattle.sheet.proofs.emit.put_half.Tie as tie
 

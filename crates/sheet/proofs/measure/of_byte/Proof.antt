@@ -1,8 +1,8 @@
-use Rattle.sheet.specs.Pairs.{addByte}
-use borrow.Author.Tests.{eq-eqb, ne-eqb}
+-- `sheet::measure::of_byte` meets its contract.
+-- Assumes nothing.
 use native.Mathlib.Omega.{arith}
-use Prim.Native.Nat.{ℕ, _+_, _*_, _^_, _<_, _≤_}
-use mathlib.Core.Path.{_≡_, refl, sym, _∙_, ap}
+use borrow.Author.Tests.{eq-eqb, ne-eqb}
+use Rattle.sheet.specs.Pairs.{addByte}
 use Rattle.sheet.proofs.measure.of_byte.Statement.{statement}
 use Rattle.sheet.proofs.measure.of_byte.Tie as tie
 

@@ -1,10 +1,10 @@
-use Rattle.sheet.specs.Pairs.{joined, halfPairs}
-use borrow.Author.Tests.{eq-eqb, ne-eqb}
-use lib.ListN.{length, length-append}
+-- `sheet::measure::of_half` meets its contract.
+-- Assumes nothing.
 use native.Mathlib.Omega.{arith}
-use Prim.Native.Nat.{ℕ, _+_, _*_, _^_, _<_, _≤_}
-use mathlib.Core.Path.{_≡_, refl, sym, _∙_, ap}
+use lib.ListN.{length-append}
 use borrow.Author.Needs.{needs}
+use borrow.Author.Tests.{eq-eqb, ne-eqb}
+use Rattle.sheet.specs.Pairs.{joined, halfPairs}
 use Rattle.sheet.proofs.measure.of_half.Statement.{statement}
 use Rattle.sheet.proofs.measure.of_half.Tie as tie
 

@@ -1,11 +1,13 @@
-use Rattle.sheet.proofs.Kept.{kind-small}
-use Rattle.sheet.proofs.ByKind.{one-pair}
-use Rattle.sheet.specs.Pairs.{pairTable, pairsBy}
-use lib.ListN.{length, length-append}
+-- `sheet::measure::of_step` meets its contract.
+-- Assumes nothing.
+use mathlib.Core.Path.{sym}
+use Prim.Native.Nat.{_+_, _*_}
 use native.Mathlib.Omega.{arith}
-use Prim.Native.Nat.{ℕ, _+_, _*_, _^_, _<_, _≤_}
-use mathlib.Core.Path.{_≡_, refl, sym, _∙_, ap}
+use lib.ListN.{length-append}
 use borrow.Author.Needs.{needs}
+use Rattle.sheet.specs.Pairs.{pairTable, pairsBy}
+use Rattle.sheet.proofs.ByKind.{one-pair}
+use Rattle.sheet.proofs.Kept.{kind-small}
 use Rattle.sheet.proofs.measure.of_step.Statement.{statement}
 use Rattle.sheet.proofs.measure.of_step.Tie as tie
 

@@ -1,9 +1,9 @@
-use Rattle.sheet.specs.Pairs.{wordPairs}
-use lib.ListN.{length, length-append}
+-- `sheet::measure::of_word` meets its contract.
+-- Assumes nothing.
 use native.Mathlib.Omega.{arith}
-use Prim.Native.Nat.{ℕ, _+_, _*_, _^_, _<_, _≤_}
-use mathlib.Core.Path.{_≡_, refl, sym, _∙_, ap}
+use lib.ListN.{length-append}
 use borrow.Author.Needs.{needs}
+use Rattle.sheet.specs.Pairs.{wordPairs}
 use Rattle.sheet.proofs.measure.of_word.Statement.{statement}
 use Rattle.sheet.proofs.measure.of_word.Tie as tie
 

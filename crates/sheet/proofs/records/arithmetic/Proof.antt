@@ -1,12 +1,13 @@
-use Rattle.sheet.proofs.Numbers.{add-number, sub-number, mul-number}
+-- `sheet::records::arithmetic` meets its contract.
+-- Assumes nothing.
 use mathlib.Core.List.{[], _∷_}
-use Rattle.sheet.proofs.Kept.{kept-at}
-use Rattle.sheet.specs.Rules.{table}
-use Rattle.sheet.specs.Pairs.{pairTable, pairsBy}
+use mathlib.Core.Path.{_≡_, ap}
 use native.Mathlib.Omega.{arith}
-use Prim.Native.Nat.{ℕ, _+_, _*_, _^_, _<_, _≤_}
-use mathlib.Core.Path.{_≡_, refl, sym, _∙_, ap}
 use borrow.Author.Needs.{needs}
+use Rattle.sheet.specs.Pairs.{pairTable, pairsBy}
+use Rattle.sheet.specs.Rules.{table}
+use Rattle.sheet.proofs.Kept.{kept-at}
+use Rattle.sheet.proofs.Numbers.{add-number, sub-number, mul-number}
 use Rattle.sheet.proofs.records.arithmetic.Statement.{statement}
 use Rattle.sheet.proofs.records.arithmetic.Tie as tie
 

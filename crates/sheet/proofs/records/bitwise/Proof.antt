@@ -1,11 +1,11 @@
-use Rattle.sheet.proofs.Numbers.{vand-number, vorr-number, veor-number}
-use Rattle.sheet.proofs.Kept.{kept-at}
-use Rattle.sheet.specs.Rules.{table}
-use Rattle.sheet.specs.Pairs.{pairTable, pairsBy}
+-- `sheet::records::bitwise` meets its contract.
+-- Assumes nothing.
+use mathlib.Core.Path.{_≡_}
 use native.Mathlib.Omega.{arith}
-use Prim.Native.Nat.{ℕ, _+_, _*_, _^_, _<_, _≤_}
-use mathlib.Core.Path.{_≡_, refl, sym, _∙_, ap}
 use borrow.Author.Needs.{needs}
+use Rattle.sheet.specs.Pairs.{pairTable, pairsBy}
+use Rattle.sheet.specs.Rules.{table}
+use Rattle.sheet.proofs.Numbers.{vand-number, vorr-number, veor-number}
 use Rattle.sheet.proofs.records.bitwise.Statement.{statement}
 use Rattle.sheet.proofs.records.bitwise.Tie as tie
 

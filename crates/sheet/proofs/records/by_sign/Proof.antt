@@ -1,6 +1,7 @@
-use borrow.Author.Tests.{eq-eqb, ne-eqb}
-use mathlib.Core.Path.{_≡_, refl, sym, _∙_, ap}
+-- `sheet::records::by_sign` meets its contract.
+-- Assumes nothing.
 use borrow.Author.Needs.{needs}
+use borrow.Author.Tests.{eq-eqb, ne-eqb}
 use Rattle.sheet.proofs.records.by_sign.Statement.{statement}
 use Rattle.sheet.proofs.records.by_sign.Tie as tie
 

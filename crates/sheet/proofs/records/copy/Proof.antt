@@ -1,6 +1,7 @@
-use Rattle.sheet.proofs.Numbers.{vmov-number}
-use mathlib.Core.Path.{_≡_, refl, sym, _∙_, ap}
+-- `sheet::records::copy` meets its contract.
+-- Assumes nothing.
 use borrow.Author.Needs.{needs}
+use Rattle.sheet.proofs.Numbers.{vmov-number}
 use Rattle.sheet.proofs.records.copy.Statement.{statement}
 use Rattle.sheet.proofs.records.copy.Tie as tie
 

@@ -1,6 +1,7 @@
-use Rattle.sheet.proofs.Numbers.{vorn-number}
-use mathlib.Core.Path.{_≡_, refl, sym, _∙_, ap}
+-- `sheet::records::invert` meets its contract.
+-- Assumes nothing.
 use borrow.Author.Needs.{needs}
+use Rattle.sheet.proofs.Numbers.{vorn-number}
 use Rattle.sheet.proofs.records.invert.Statement.{statement}
 use Rattle.sheet.proofs.records.invert.Tie as tie
 

@@ -1,6 +1,7 @@
-use Rattle.sheet.proofs.Numbers.{join-word-number}
-use mathlib.Core.Path.{_≡_, refl, sym, _∙_, ap}
+-- `sheet::records::join_byte` meets its contract.
+-- Assumes nothing.
 use borrow.Author.Needs.{needs}
+use Rattle.sheet.proofs.Numbers.{join-word-number}
 use Rattle.sheet.proofs.records.join_byte.Statement.{statement}
 use Rattle.sheet.proofs.records.join_byte.Tie as tie
 

@@ -1,6 +1,7 @@
-use Rattle.sheet.proofs.Numbers.{vbif-number}
-use mathlib.Core.Path.{_≡_, refl, sym, _∙_, ap}
+-- `sheet::records::join_words` meets its contract.
+-- Assumes nothing.
 use borrow.Author.Needs.{needs}
+use Rattle.sheet.proofs.Numbers.{vbif-number}
 use Rattle.sheet.proofs.records.join_words.Statement.{statement}
 use Rattle.sheet.proofs.records.join_words.Tie as tie
 

@@ -1,11 +1,11 @@
-use mir.Syntax.{w64}
-use mir.Facts.{toZ-pos}
-use Rattle.insn.specs.declared.Operand.the-variants.{Imm}
-use lib.IntN.{pos}
+-- `sheet::records::number` meets its contract.
+-- Assumes nothing.
+use mathlib.Core.Path.{ap}
 use native.Mathlib.Omega.{arith}
-use Prim.Native.Nat.{ℕ, _+_, _*_, _^_, _<_, _≤_}
-use mathlib.Core.Path.{_≡_, refl, sym, _∙_, ap}
+use mir.Facts.{toZ-pos}
+use mir.Syntax.{w64}
 use borrow.Author.Needs.{needs}
+use Rattle.insn.specs.declared.Operand.the-variants.{Imm}
 use Rattle.sheet.proofs.records.number.Statement.{statement}
 use Rattle.sheet.proofs.records.number.Tie as tie
 

@@ -1,11 +1,12 @@
-use Rattle.sheet.proofs.Numbers.{max-number, min-number, greater-number}
-use Rattle.sheet.proofs.Kept.{kept-at}
-use Rattle.sheet.specs.Rules.{table}
-use Rattle.sheet.specs.Pairs.{pairTable, pairsBy}
+-- `sheet::records::ordering` meets its contract.
+-- Assumes nothing.
+use mathlib.Core.Path.{_≡_}
 use native.Mathlib.Omega.{arith}
-use Prim.Native.Nat.{ℕ, _+_, _*_, _^_, _<_, _≤_}
-use mathlib.Core.Path.{_≡_, refl, sym, _∙_, ap}
 use borrow.Author.Needs.{needs}
+use Rattle.sheet.specs.Pairs.{pairTable, pairsBy}
+use Rattle.sheet.specs.Rules.{table}
+use Rattle.sheet.proofs.Kept.{kept-at}
+use Rattle.sheet.proofs.Numbers.{max-number, min-number, greater-number}
 use Rattle.sheet.proofs.records.ordering.Statement.{statement}
 use Rattle.sheet.proofs.records.ordering.Tie as tie
 

@@ -1,6 +1,7 @@
-use Rattle.sheet.proofs.Numbers.{vbsl-number}
-use mathlib.Core.Path.{_≡_, refl, sym, _∙_, ap}
+-- `sheet::records::pick` meets its contract.
+-- Assumes nothing.
 use borrow.Author.Needs.{needs}
+use Rattle.sheet.proofs.Numbers.{vbsl-number}
 use Rattle.sheet.proofs.records.pick.Statement.{statement}
 use Rattle.sheet.proofs.records.pick.Tie as tie
 

@@ -1,6 +1,7 @@
-use Rattle.sheet.proofs.Numbers.{set-long-number}
-use mathlib.Core.Path.{_≡_, refl, sym, _∙_, ap}
+-- `sheet::records::set_mask` meets its contract.
+-- Assumes nothing.
 use borrow.Author.Needs.{needs}
+use Rattle.sheet.proofs.Numbers.{set-long-number}
 use Rattle.sheet.proofs.records.set_mask.Statement.{statement}
 use Rattle.sheet.proofs.records.set_mask.Tie as tie
 

@@ -1,6 +1,7 @@
-use Rattle.sheet.proofs.Numbers.{set-word-number}
-use mathlib.Core.Path.{_≡_, refl, sym, _∙_, ap}
+-- `sheet::records::set_word` meets its contract.
+-- Assumes nothing.
 use borrow.Author.Needs.{needs}
+use Rattle.sheet.proofs.Numbers.{set-word-number}
 use Rattle.sheet.proofs.records.set_word.Statement.{statement}
 use Rattle.sheet.proofs.records.set_word.Tie as tie
 

@@ -1,13 +1,14 @@
-use Rattle.sheet.proofs.Numbers.{left-number, right-number}
+-- `sheet::records::shift` meets its contract.
+-- Assumes nothing.
 use mathlib.Core.List.{[], _∷_}
-use borrow.Author.Tests.{eq-eqb, ne-eqb}
-use Rattle.sheet.proofs.Kept.{kept-at}
-use Rattle.sheet.specs.Rules.{table}
-use Rattle.sheet.specs.Pairs.{pairTable, pairsBy}
+use mathlib.Core.Path.{_≡_, ap}
 use native.Mathlib.Omega.{arith}
-use Prim.Native.Nat.{ℕ, _+_, _*_, _^_, _<_, _≤_}
-use mathlib.Core.Path.{_≡_, refl, sym, _∙_, ap}
 use borrow.Author.Needs.{needs}
+use borrow.Author.Tests.{eq-eqb, ne-eqb}
+use Rattle.sheet.specs.Pairs.{pairTable, pairsBy}
+use Rattle.sheet.specs.Rules.{table}
+use Rattle.sheet.proofs.Kept.{kept-at}
+use Rattle.sheet.proofs.Numbers.{left-number, right-number}
 use Rattle.sheet.proofs.records.shift.Statement.{statement}
 use Rattle.sheet.proofs.records.shift.Tie as tie
 

@@ -1,11 +1,13 @@
-use Rattle.sheet.proofs.Columns.{no-amount}
-use Rattle.sheet.specs.Rules.{table}
-use lib.Pow.{pow-mono}
+-- `sheet::rules::amounts` meets its contract.
+-- Assumes nothing.
+use mathlib.Core.Path.{sym, ap}
+use Prim.Native.Nat.{ℕ, _+_}
 use native.Mathlib.Nat.{mod-eq-of-lt}
 use native.Mathlib.Omega.{arith}
-use Prim.Native.Nat.{ℕ, _+_, _*_, _^_, _<_, _≤_}
-use mathlib.Core.Path.{_≡_, refl, sym, _∙_, ap}
+use lib.Pow.{pow-mono}
 use borrow.Author.Needs.{needs}
+use Rattle.sheet.specs.Rules.{table}
+use Rattle.sheet.proofs.Columns.{no-amount}
 use Rattle.sheet.proofs.rules.amounts.Statement.{statement}
 use Rattle.sheet.proofs.rules.amounts.Tie as tie
 

@@ -1,9 +1,8 @@
-use Rattle.sheet.proofs.Columns.{sign-column}
-use Rattle.sheet.specs.Rules.{keepsNumbers}
-use native.Mathlib.Omega.{arith}
-use Prim.Native.Nat.{ℕ, _+_, _*_, _^_, _<_, _≤_}
-use mathlib.Core.Path.{_≡_, refl, sym, _∙_, ap}
+-- `sheet::rules::keeps_numbers` meets its contract.
+-- Assumes nothing.
 use borrow.Author.Needs.{needs}
+use Rattle.sheet.specs.Rules.{keepsNumbers}
+use Rattle.sheet.proofs.Columns.{sign-column}
 use Rattle.sheet.proofs.rules.keeps_numbers.Statement.{statement}
 use Rattle.sheet.proofs.rules.keeps_numbers.Tie as tie
 

@@ -1,9 +1,10 @@
-use Rattle.sheet.proofs.Columns.{a-column, b-column, c-column, width-column}
-use Rattle.sheet.specs.Rules.{keepsRows}
-use native.Mathlib.Omega.{arith}
-use Prim.Native.Nat.{ℕ, _+_, _*_, _^_, _<_, _≤_}
-use mathlib.Core.Path.{_≡_, refl, sym, _∙_, ap}
+-- `sheet::rules::keeps_rows` meets its contract.
+-- Assumes nothing.
+use mathlib.Core.Path.{sym}
+use Prim.Native.Nat.{_<_}
 use borrow.Author.Needs.{needs}
+use Rattle.sheet.specs.Rules.{keepsRows}
+use Rattle.sheet.proofs.Columns.{a-column, b-column, c-column, width-column}
 use Rattle.sheet.proofs.rules.keeps_rows.Statement.{statement}
 use Rattle.sheet.proofs.rules.keeps_rows.Tie as tie
 

@@ -1,9 +1,10 @@
-use Rattle.sheet.proofs.Kept.{kind-past, rows-of}
-use Rattle.sheet.specs.Rules.{keeps}
+-- `sheet::rules::keeps_rules` meets its contract.
+-- Assumes nothing.
+use mathlib.Core.Path.{sym, _∙_}
 use native.Mathlib.Omega.{arith}
-use Prim.Native.Nat.{ℕ, _+_, _*_, _^_, _<_, _≤_}
-use mathlib.Core.Path.{_≡_, refl, sym, _∙_, ap}
 use borrow.Author.Needs.{needs}
+use Rattle.sheet.specs.Rules.{keeps}
+use Rattle.sheet.proofs.Kept.{kind-past, rows-of}
 use Rattle.sheet.proofs.rules.keeps_rules.Statement.{statement}
 use Rattle.sheet.proofs.rules.keeps_rules.Tie as tie
 

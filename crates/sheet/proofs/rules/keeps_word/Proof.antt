@@ -1,9 +1,11 @@
-use Rattle.sheet.proofs.Columns.{no-word}
-use Rattle.sheet.specs.Rules.{table}
-use borrow.Author.Tests.{lt-ltb}
+-- `sheet::rules::keeps_word` meets its contract.
+-- Assumes nothing.
+use mathlib.Core.Path.{sym}
+use Prim.Native.Nat.{_^_}
 use native.Mathlib.Omega.{arith}
-use Prim.Native.Nat.{ℕ, _+_, _*_, _^_, _<_, _≤_}
-use mathlib.Core.Path.{_≡_, refl, sym, _∙_, ap}
+use borrow.Author.Tests.{lt-ltb}
+use Rattle.sheet.specs.Rules.{table}
+use Rattle.sheet.proofs.Columns.{no-word}
 use Rattle.sheet.proofs.rules.keeps_word.Statement.{statement}
 use Rattle.sheet.proofs.rules.keeps_word.Tie as tie
 

@@ -1,6 +1,7 @@
-use Rattle.sheet.specs.Steps.{stepAt}
-use mathlib.Core.Path.{_≡_, refl, sym, _∙_, ap}
+-- `sheet::steps::step_at` meets its contract.
+-- Assumes nothing.
 use borrow.Author.Needs.{needs}
+use Rattle.sheet.specs.Steps.{stepAt}
 use Rattle.sheet.proofs.steps.step_at.Statement.{statement}
 use Rattle.sheet.proofs.steps.step_at.Tie as tie
 

@@ -1,6 +1,7 @@
-use Rattle.sheet.specs.Steps.{wordAt}
-use mathlib.Core.Path.{_≡_, refl, sym, _∙_, ap}
+-- `sheet::steps::word_at` meets its contract.
+-- Assumes nothing.
 use borrow.Author.Needs.{needs}
+use Rattle.sheet.specs.Steps.{wordAt}
 use Rattle.sheet.proofs.steps.word_at.Statement.{statement}
 use Rattle.sheet.proofs.steps.word_at.Tie as tie
 
