@@ -1,0 +1,19 @@
+-- `loading::file_of` is safe and ends.
+-- Assumes nothing.
+use Prim.Native.Nat.{_≤_, _-_}
+use mathlib.Core.Path.{_≡_}
+use lib.ListN.{length}
+use borrow.Author.Needs.{needs}
+use Rattle.loading.proofs.file_of.Statement.{statement}
+use Rattle.loading.proofs.file_of.Tie as tie
+
+abbrev Inv-loop : tie.InvT-loop
+Inv-loop start file₀ k₀ file k = (length file ≡ 32) × (k ≤ 32)
+
+abbrev μ-loop : tie.MeasureT-loop
+μ-loop start file₀ k₀ file k = 32 - k
+
+pub file-of-spec : {M : Type 1} → statement M
+file-of-spec =
+    tie.close
+    (tie.spec Inv-loop μ-loop (λ c. search needs) (λ c κs. search needs) (λ c. search needs) (λ c. search needs) (λ c. search needs) (λ c. search needs) (λ c. search needs) (λ c. search needs))
