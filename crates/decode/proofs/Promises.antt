@@ -3,9 +3,7 @@
 use mathlib.Core.Path.{_≡_, ap}
 use Prim.Native.Nat.{ℕ}
 use native.Mathlib.Omega.{arith}
-use Rattle.insn.specs.declared.Insn.{Insn}
 use Rattle.insn.proofs.Promises.{numberedApart}
-use Rattle.decode.specs.declared.Reading.{Reading}
 use Rattle.decode.specs.declared.Reading.the-variants.{Read, Refused}
 use Rattle.decode.specs.Promises.{ReadingsApart}
 

@@ -3,7 +3,6 @@
 -- Assumes nothing.
 use mathlib.Core.Bool.{Bool}
 use Prim.Native.Nat.{ℕ, _+_, _*_}
-use Prim.Native.String.{String}
 use lib.Dec.{eqb}
 use lib.Text.{eqt}
 use Rattle.laws.specs.Answer.{Answer, accepted, refused}

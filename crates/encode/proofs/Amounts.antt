@@ -3,7 +3,7 @@
 use mathlib.Core.Path.{_≡_, refl, sym, ap, _∙_}
 use mathlib.Core.Bool.{Bool, true, false, not}
 use mathlib.Core.Logic.{_≢_}
-use Prim.Native.Nat.{ℕ, _+_, _-_, _*_, _/_, _%_, _^_, _<_, _≤_}
+use Prim.Native.Nat.{ℕ, _+_, _-_, _*_, _%_, _^_, _<_, _≤_}
 use native.Mathlib.Omega.{arith}
 use lib.Dec.{eqb, ltb, leb}
 use lib.IntN.{ℤ, pos, negsuc}
@@ -13,8 +13,8 @@ use Rattle.laws.specs.Answer.{Answer, accepted, refused}
 use Rattle.laws.specs.Choice.{choose}
 use Rattle.laws.proofs.Range.{values, agree, agree2}
 use Rattle.insn.specs.declared.Operand.the-variants.{Imm}
-use Rattle.tables.specs.Search.{Found, at, none, firstBelow}
-use Rattle.tables.proofs.Search.{candidate, nothing}
+use Rattle.laws.specs.Search.{Found, at, none}
+use Rattle.laws.proofs.Search.{candidate, nothing}
 use Rattle.tables.specs.declared.ShiftClass.{ShiftClass}
 use Rattle.tables.specs.declared.ShiftClass.the-variants.{Right, Left, Narrow, Long, Convert}
 use Rattle.fields.specs.Halfwords.{bit, field}
@@ -22,7 +22,7 @@ use Rattle.immediates.specs.Shifts.{isEscape, codeOf, rightEnd, leftStart, amou
 use Rattle.immediates.specs.Signed.{patternOf}
 use Rattle.decode.specs.Operands.{both}
 use Rattle.decode.specs.Shift.{forbidden, columnOf}
-use Rattle.encode.specs.Forms.{sameNumber, orNine}
+use Rattle.encode.specs.Forms.{orNine}
 use Rattle.encode.specs.Shift.{readsAs, amountIn}
 use Rattle.encode.proofs.Tests.{never, both-true, not-holds, same-number}
 

@@ -1,29 +1,29 @@
 -- The place op:cmode:imm8 of a value, by a formula: antt computes that every place that is read has the formula's for its name and value.
 -- Assumes nothing.
-use mathlib.Core.Path.{_≡_, refl, sym, ap, _∙_, subst}
+use mathlib.Core.Path.{_≡_, refl, sym, ap, _∙_}
 use mathlib.Core.Bool.{Bool, true, false, not}
-use Prim.Native.Nat.{ℕ, _+_, _-_, _*_, _/_, _%_, _^_, _<_, _≤_}
+use Prim.Native.Nat.{ℕ, _+_, _*_, _/_, _%_, _^_, _<_}
 use Prim.Native.String.{String}
 use native.Mathlib.Omega.{arith}
 use lib.Dec.{T, eqb, ltb}
-use lib.IntN.{ℤ, pos, negsuc}
+use lib.IntN.{ℤ, pos}
 use lib.Ieee as Ieee
 use lib.Text.{eqt, eqt-refl}
 use borrow.Author.Tests.{eqb-true, ltb-true, eq-eqb}
-use Rattle.laws.specs.Answer.{Answer, accepted, refused}
+use Rattle.laws.specs.Answer.{accepted, refused}
 use Rattle.laws.specs.Choice.{choose}
 use Rattle.laws.proofs.Range.{values, agree}
 use Rattle.insn.specs.declared.Operand.{Operand}
-use Rattle.insn.specs.declared.Operand.the-variants.{D, Q, S, Imm, Float, Other, Absent}
+use Rattle.insn.specs.declared.Operand.the-variants.{Imm, Float}
 use Rattle.tables.specs.Cells.{cellAt}
 use Rattle.tables.specs.Home.{homeOf}
 use Rattle.tables.specs.Modimm.{modimm}
 use Rattle.tables.specs.Names.{names, nameOf, numberOf}
-use Rattle.tables.specs.Search.{Found, at, none, firstBelow}
+use Rattle.laws.specs.Search.{at, none}
 use Rattle.tables.specs.declared.home.Home.the-variants.{Modimm}
 use Rattle.tables.proofs.Cells.{cell16, firstRow, Stands, named, modimm-stands, modimm-home}
 use Rattle.tables.proofs.Promises.{numbersBack}
-use Rattle.tables.proofs.Search.{hit, only, nothing, all-fail, candidate}
+use Rattle.laws.proofs.Search.{hit, only, nothing, all-fail, candidate}
 use Rattle.fields.specs.Halfwords.{bit, field}
 use Rattle.immediates.specs.Floats.{floatOf}
 use Rattle.immediates.specs.Found.{findFloat}
@@ -31,7 +31,7 @@ use Rattle.immediates.specs.Modified.{Constant, byte, eachBit, float, undefined
 use Rattle.immediates.specs.Signed.{signedOf, patternOf}
 use Rattle.immediates.proofs.Promises.{patternBack, floatOnce}
 use Rattle.decode.specs.Operands.{both}
-use Rattle.encode.specs.Forms.{sameNumber, orNine}
+use Rattle.encode.specs.Forms.{orNine}
 use Rattle.encode.specs.Modimm.{sameValue, readsAs, OnlyPlace, immediateOf}
 use Rattle.encode.proofs.Tests.{wrong, both-true, both-no, not-holds, same-text, same-number}
 

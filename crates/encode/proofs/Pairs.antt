@@ -6,7 +6,7 @@ use Prim.Native.Nat.{ℕ, _+_, _*_, _/_, _%_}
 use native.Mathlib.Omega.{arith}
 use Rattle.tables.specs.declared.ShiftClass.{ShiftClass}
 use Rattle.tables.specs.declared.ShiftClass.the-variants.{Right, Left, Narrow, Long, Convert}
-use Rattle.fields.specs.Halfwords.{bit, field, first, second}
+use Rattle.fields.specs.Halfwords.{field, first, second}
 use Rattle.encode.specs.Forms.{pair, asBit}
 use Rattle.encode.specs.Same3.{same3Pair}
 use Rattle.encode.specs.Diff.{diffPair}

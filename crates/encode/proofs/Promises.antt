@@ -1,12 +1,8 @@
 -- The promises of specs/Promises.antt.
 -- Assumes nothing.
-use mathlib.Core.Path.{_≡_, refl, sym, ap, _∙_}
-use mathlib.Core.Bool.{Bool}
-use Prim.Native.Nat.{ℕ, _<_}
+use mathlib.Core.Path.{_≡_, refl, sym, ap}
 use native.Mathlib.Omega.{arith}
 use Rattle.laws.specs.Answer.{accepted}
-use Rattle.insn.specs.declared.Insn.{Insn}
-use Rattle.insn.specs.declared.Mark.{Mark}
 use Rattle.insn.specs.declared.Operand.the-variants.{Absent}
 use Rattle.insn.specs.Record.{placeAt}
 use Rattle.insn.proofs.Places.{past}
@@ -18,11 +14,9 @@ use Rattle.tables.specs.declared.home.Home.the-variants.{Same3, Shift, Vmovl, M
 use Rattle.decode.specs.Reading.{reading, familyOf, inFamily}
 use Rattle.decode.specs.declared.Family.{Family}
 use Rattle.decode.specs.declared.Family.the-variants.{ThreeSame, ThreeDifferent, Shift as shift, ModifiedImmediate, NoFamily}
-use Rattle.encode.specs.declared.Writing.{Writing}
 use Rattle.encode.specs.declared.Writing.the-variants.{Wrote, Refused}
-use Rattle.encode.specs.Answers.{writingAnswer}
 use Rattle.encode.specs.Forms.{pair, isNumber}
-use Rattle.encode.specs.Spelling.{Held, spelling, canonical, marked}
+use Rattle.encode.specs.Spelling.{spelling, canonical, marked}
 use Rattle.encode.specs.Writing.{inHome, writing}
 use Rattle.encode.specs.Promises.{ReadThenWritten, ReadsAs, WrittenThenRead, WritingsApart}
 use Rattle.encode.proofs.Routing.{Route, routed}

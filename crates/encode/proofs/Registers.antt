@@ -1,8 +1,8 @@
 -- Registers there and back, and what an accepted answer is made of.
 -- Assumes nothing.
-use mathlib.Core.Path.{_≡_, refl, sym, ap, _∙_}
-use mathlib.Core.Bool.{Bool, true, false, not}
-use Prim.Native.Nat.{ℕ, _+_, _*_, _/_, _%_, _<_}
+use mathlib.Core.Path.{_≡_, refl, sym, ap}
+use mathlib.Core.Bool.{Bool, true, false}
+use Prim.Native.Nat.{ℕ, _/_, _%_, _<_}
 use native.Mathlib.Omega.{arith}
 use lib.Dec.{eqb}
 use borrow.Author.Tests.{eq-eqb, ne-eqb, eqb-true, eqb-false}
@@ -11,12 +11,12 @@ use Rattle.laws.specs.Choice.{choose}
 use Rattle.insn.specs.declared.Insn.{Insn}
 use Rattle.insn.specs.declared.Mark.{Mark}
 use Rattle.insn.specs.declared.Operand.{Operand}
-use Rattle.insn.specs.declared.Operand.the-variants.{D, Q, S, Imm, Float, Other, Absent}
+use Rattle.insn.specs.declared.Operand.the-variants.{D, Q, Absent}
 use Rattle.fields.specs.Registers.{Bits, bits, vecOf, vecBits}
 use Rattle.fields.proofs.Promises.{bitsOfVec, vecOfBits}
 use Rattle.decode.specs.Operands.{insn}
 use Rattle.decode.specs.Operands as Read
-use Rattle.encode.specs.Forms.{isQuad, isNumber, ofLength, registerIn, Three, three, allThree}
+use Rattle.encode.specs.Forms.{isQuad, isNumber, ofLength, registerIn, three, allThree}
 use Rattle.encode.specs.Spelling.{sameRegister, isZero}
 use Rattle.encode.proofs.Tests.{never}
 

@@ -1,14 +1,14 @@
 -- Three registers of different lengths: written and read again, and read and written again.
 -- Assumes nothing.
 use mathlib.Core.Path.{_≡_, refl, sym, ap, _∙_}
-use mathlib.Core.Bool.{Bool, true, false, not}
+use mathlib.Core.Bool.{Bool, false, not}
 use Prim.Native.Nat.{ℕ, _+_, _*_, _/_, _%_, _<_}
 use native.Mathlib.Omega.{arith}
 use lib.Dec.{eqb}
 use lib.ListN.{getD}
 use lib.Text.{eqt}
 use borrow.Author.Tests.{eqb-true}
-use Rattle.laws.specs.Answer.{Answer, accepted, refused}
+use Rattle.laws.specs.Answer.{accepted}
 use Rattle.laws.specs.Choice.{choose}
 use Rattle.laws.proofs.Digits.{digit}
 use Rattle.laws.proofs.Range.{values, agree}
@@ -24,19 +24,19 @@ use Rattle.tables.specs.Home.{homeOf}
 use Rattle.tables.specs.declared.DiffShape.{DiffShape}
 use Rattle.tables.specs.declared.DiffShape.the-variants.{Long, Wide, Narrow}
 use Rattle.tables.specs.declared.home.Home.the-variants.{Diff}
-use Rattle.tables.proofs.Cells.{cell4, Stands, named, diff-stands, diff-home}
+use Rattle.tables.proofs.Cells.{cell4, named, diff-stands, diff-home}
 use Rattle.tables.proofs.Promises.{numbersBack}
 use Rattle.fields.specs.Halfwords.{bit, field, first, second}
 use Rattle.fields.specs.Registers.{dnumOf, vecOf}
 use Rattle.fields.specs.Promises.{FirstFields, SecondFields}
 use Rattle.fields.proofs.Promises.{firstUnpacked, secondUnpacked, firstPacked, secondPacked}
-use Rattle.decode.specs.Operands.{both, insn}
+use Rattle.decode.specs.Operands.{insn}
 use Rattle.decode.specs.Operands as Read
 use Rattle.decode.specs.Diff.{shaped, diffOf, diffReading}
 use Rattle.decode.specs.Reading.{reading, inFamily}
 use Rattle.encode.specs.Forms.{Pair, pair, registerIn, Three, three, allThree}
 use Rattle.encode.specs.Diff.{diffPair, quadD, quadN, quadM, diffForm, diffShaped, diffWriting}
-use Rattle.encode.specs.Spelling.{sameRegister, isZero, movedName, canonical, marked}
+use Rattle.encode.specs.Spelling.{movedName, canonical, marked}
 use Rattle.encode.specs.Writing.{writing}
 use Rattle.encode.specs.Promises.{ReadsAs}
 use Rattle.encode.proofs.Canonical.{hw1Of, hw2Of, spelt, as-spelt}

@@ -1,7 +1,7 @@
 -- One register and a modified immediate: written and read again, and read and written again.
 -- Assumes nothing.
 use mathlib.Core.Path.{_≡_, refl, sym, ap, _∙_}
-use mathlib.Core.Bool.{Bool, true, false, not}
+use mathlib.Core.Bool.{Bool, true, false}
 use Prim.Native.Nat.{ℕ, _+_, _*_, _/_, _%_, _<_}
 use Prim.Native.String.{String}
 use native.Mathlib.Omega.{arith}
@@ -24,11 +24,11 @@ use Rattle.tables.specs.Cells.{cellAt}
 use Rattle.tables.specs.Names.{nameOf, numberOf}
 use Rattle.tables.specs.Home.{homeOf}
 use Rattle.tables.specs.Modimm.{modimm}
-use Rattle.tables.specs.Search.{Found, at, none, firstBelow}
+use Rattle.laws.specs.Search.{Found, at, none}
 use Rattle.tables.specs.declared.home.Home.the-variants.{Modimm}
-use Rattle.tables.proofs.Cells.{cell16, firstRow, Stands, named, modimm-stands, modimm-home}
+use Rattle.tables.proofs.Cells.{cell16, firstRow, named, modimm-stands, modimm-home}
 use Rattle.tables.proofs.Promises.{numbersBack}
-use Rattle.tables.proofs.Search.{hit, only}
+use Rattle.laws.proofs.Search.{hit, only}
 use Rattle.fields.specs.Halfwords.{bit, field, first, second}
 use Rattle.fields.specs.Registers.{dnumOf, vecOf}
 use Rattle.fields.specs.Promises.{FirstFields, SecondFields}
@@ -44,13 +44,13 @@ use Rattle.decode.specs.Operands.{both, isSet, insn}
 use Rattle.decode.specs.Operands as Read
 use Rattle.decode.specs.Modimm.{modimmOf, imm8Of, modimmReading}
 use Rattle.decode.specs.Reading.{reading, inFamily}
-use Rattle.encode.specs.Forms.{Pair, pair, asBit, isQuad, registerIn, orNine}
-use Rattle.encode.specs.Modimm.{modimmPair, sameValue, readsAs, OnlyPlace, immediateOf, immediateIn, modimmForm, modimmWriting}
-use Rattle.encode.specs.Spelling.{Held, sameRegister, isZero, movedName, canonical, marked}
+use Rattle.encode.specs.Forms.{Pair, pair, asBit, isQuad, orNine}
+use Rattle.encode.specs.Modimm.{modimmPair, sameValue, readsAs, immediateOf, immediateIn, modimmForm, modimmWriting}
+use Rattle.encode.specs.Spelling.{Held, movedName, canonical, marked}
 use Rattle.encode.specs.Writing.{writing}
 use Rattle.encode.specs.Promises.{ReadsAs}
 use Rattle.encode.proofs.Canonical.{hw1Of, hw2Of, spelt, as-spelt}
-use Rattle.encode.proofs.Immediates.{op, cmode, imm8, row-of, Reads, says, isFloat, float-rows, only-number, spelled-back, equal, float-found}
+use Rattle.encode.proofs.Immediates.{op, cmode, imm8, row-of, says, isFloat, float-rows, only-number, spelled-back, equal, float-found}
 use Rattle.encode.proofs.Registers.{chosen, passed, two-operands, register-back, register-forth, quad-of}
 use Rattle.encode.proofs.Routing.{ImmediateBits, to-modimm, set-bit, bit-set, bit-small, number-back, number-hi, number-lo, number-small}
 use Rattle.encode.proofs.Tests.{never, wrong, same-number, number-same, same-text}

@@ -8,7 +8,7 @@ use native.Mathlib.Omega.{arith}
 use lib.Dec.{eqb}
 use lib.Text.{eqt}
 use borrow.Author.Tests.{eq-eqb, eqb-true}
-use Rattle.laws.specs.Answer.{Answer, accepted, refused}
+use Rattle.laws.specs.Answer.{accepted, refused}
 use Rattle.laws.specs.Choice.{choose}
 use Rattle.laws.proofs.Digits.{digit}
 use Rattle.laws.proofs.Range.{values, agree}
@@ -16,10 +16,10 @@ use Rattle.insn.specs.declared.Insn.{Insn}
 use Rattle.insn.specs.declared.Mark.{Mark}
 use Rattle.insn.specs.declared.Mark.the-variants.{T1}
 use Rattle.insn.specs.declared.Operand.{Operand}
-use Rattle.insn.specs.declared.Operand.the-variants.{D, Q, Absent}
+use Rattle.insn.specs.declared.Operand.the-variants.{Absent}
 use Rattle.insn.specs.Record.{placeAt}
 use Rattle.tables.specs.Cells.{cellAt}
-use Rattle.tables.specs.Names.{names, nameOf, numberOf, pairwise}
+use Rattle.tables.specs.Names.{nameOf, numberOf, pairwise}
 use Rattle.tables.specs.Same3.{same3}
 use Rattle.tables.specs.Home.{homeOf}
 use Rattle.tables.specs.declared.home.Home.the-variants.{Same3, Vmov}
@@ -38,7 +38,7 @@ use Rattle.encode.specs.Same3.{same3Pair, same3Form, same3Writing, vorrC
 use Rattle.encode.specs.Spelling.{sameRegister, isZero, movedName, canonical, marked}
 use Rattle.encode.specs.Writing.{writing}
 use Rattle.encode.specs.Promises.{ReadsAs}
-use Rattle.encode.proofs.Registers.{Threefold, threefold, chosen, passed, then, operands, two-operands, register-back, register-forth, quad-of, no-number, no-zero, same-registers}
+use Rattle.encode.proofs.Registers.{threefold, chosen, passed, then, operands, two-operands, register-back, register-forth, quad-of, no-number, no-zero, same-registers}
 use Rattle.encode.proofs.Canonical.{hw1Of, hw2Of, spelt, as-spelt, as-vmov}
 use Rattle.encode.proofs.Tests.{both-true, both-no}
 use Rattle.encode.proofs.Routing.{SameBits, to-same, set-bit, bit-set, bit-small, number-back, number-hi, number-lo, number-small, upper-two, lower-four, six}

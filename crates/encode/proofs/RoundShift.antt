@@ -10,9 +10,8 @@ use lib.IntN.{ℤ, pos}
 use lib.ListN.{getD}
 use lib.Text.{eqt}
 use borrow.Author.Tests.{eq-eqb, eqb-true}
-use Rattle.laws.specs.Answer.{Answer, accepted, refused}
+use Rattle.laws.specs.Answer.{accepted}
 use Rattle.laws.specs.Choice.{choose}
-use Rattle.laws.proofs.Digits.{digit}
 use Rattle.laws.proofs.Range.{values, agree}
 use Rattle.insn.specs.declared.Insn.{Insn}
 use Rattle.insn.specs.declared.Mark.{Mark}
@@ -23,14 +22,14 @@ use Rattle.insn.specs.Record.{placeAt}
 use Rattle.tables.specs.Cells.{cellAt}
 use Rattle.tables.specs.Names.{nameOf, numberOf}
 use Rattle.tables.specs.Home.{homeOf}
-use Rattle.tables.specs.Search.{Found, at, none, firstBelow}
+use Rattle.laws.specs.Search.{Found, at, none}
 use Rattle.tables.specs.Shift.{shiftRows, shiftCells, shiftClasses, vmovl}
 use Rattle.tables.specs.declared.ShiftClass.{ShiftClass}
 use Rattle.tables.specs.declared.ShiftClass.the-variants.{Right, Left, Narrow, Long, Convert}
 use Rattle.tables.specs.declared.home.Home.the-variants.{Shift, Vmovl}
 use Rattle.tables.proofs.Cells.{cell4, Stands, named, classAt, firstCell, shift-stands, vmovl-stands, shift-home, vmovl-home}
 use Rattle.tables.proofs.Promises.{numbersBack}
-use Rattle.tables.proofs.Search.{hit, only}
+use Rattle.laws.proofs.Search.{hit, only}
 use Rattle.fields.specs.Halfwords.{bit, field, first, second}
 use Rattle.fields.specs.Registers.{dnumOf, vecOf}
 use Rattle.fields.specs.Promises.{FirstFields, SecondFields}
@@ -41,7 +40,7 @@ use Rattle.decode.specs.Operands.{both, isSet, insn}
 use Rattle.decode.specs.Operands as Read
 use Rattle.decode.specs.Shift.{forbidden, columnOf, amount, longOf, shifted, shiftOf, shiftReading}
 use Rattle.decode.specs.Reading.{reading, inFamily}
-use Rattle.encode.specs.Forms.{Pair, pair, asBit, isQuad, sameNumber, registerIn, orNine, Three, three, allThree}
+use Rattle.encode.specs.Forms.{Pair, pair, isQuad, registerIn, orNine, Three, three, allThree}
 use Rattle.encode.specs.Shift.{shiftPair, readsAs, amountIn, quadD, quadM, bitB, shiftForm, shiftClassed, shiftWriting, vshllCell, vmovlWriting}
 use Rattle.encode.specs.Spelling.{sameRegister, isZero, movedName, canonical, marked}
 use Rattle.encode.specs.Writing.{writing}

@@ -1,8 +1,8 @@
 -- The fixed bits of each family, from its family and to it; and the fields of a cell's place and of a register's number.
 -- Assumes nothing.
-use mathlib.Core.Path.{_≡_, refl, sym, ap, _∙_}
+use mathlib.Core.Path.{_≡_, refl, sym}
 use mathlib.Core.Bool.{Bool, true, false, not}
-use Prim.Native.Nat.{ℕ, _+_, _*_, _/_, _%_, _<_}
+use Prim.Native.Nat.{ℕ, _+_, _*_, _%_, _<_}
 use native.Mathlib.Omega.{arith}
 use lib.Dec.{eqb}
 use borrow.Author.Tests.{eq-eqb, ne-eqb, eqb-true, eqb-false}
@@ -10,7 +10,7 @@ use Rattle.laws.specs.Choice.{choose}
 use Rattle.fields.specs.Halfwords.{bit, field}
 use Rattle.fields.specs.Registers.{dnumOf}
 use Rattle.immediates.specs.Shifts.{isEscape}
-use Rattle.decode.specs.Operands.{both, isSet}
+use Rattle.decode.specs.Operands.{isSet}
 use Rattle.decode.specs.Reading.{isDataProcessing, familyOf}
 use Rattle.decode.specs.declared.Family.{Family}
 use Rattle.decode.specs.declared.Family.the-variants.{ThreeSame, ThreeDifferent, Shift, ModifiedImmediate, NoFamily}

@@ -13,7 +13,7 @@ use Rattle.insn.specs.declared.Operand.{Operand}
 use Rattle.insn.specs.declared.Operand.the-variants.{D, Q, S, Imm, Float, Other, Absent}
 use Rattle.tables.specs.Cells.{cellAt}
 use Rattle.tables.specs.Modimm.{modimm}
-use Rattle.tables.specs.Search.{firstBelow}
+use Rattle.laws.specs.Search.{firstBelow}
 use Rattle.fields.specs.Halfwords.{bit, field, first, second}
 use Rattle.immediates.specs.Modified.{modimmOperand, needsNonzero}
 use Rattle.decode.specs.Operands.{both}

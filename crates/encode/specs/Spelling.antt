@@ -5,8 +5,8 @@ use mathlib.Core.Path.{_≡_}
 use Prim.Native.Nat.{ℕ}
 use Prim.Native.String.{String}
 use lib.Dec.{eqb}
-use lib.Ieee.{Float, binary64, fits}
-use lib.IntN.{ℤ, pos, negsuc}
+use lib.Ieee.{binary64, fits}
+use lib.IntN.{pos, negsuc}
 use lib.Text.{eqt}
 use Rattle.laws.specs.Answer.{Answer, accepted, refused}
 use Rattle.laws.specs.Choice.{choose}

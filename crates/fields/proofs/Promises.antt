@@ -1,25 +1,19 @@
 -- The promises of specs/Promises.antt.
 -- Assumes nothing.
-use mathlib.Core.Path.{_≡_, refl, sym, ap, _∙_}
+use mathlib.Core.Path.{_≡_, refl, ap}
 use mathlib.Core.Bool.{Bool, true, false}
 use Prim.Native.Nat.{ℕ, _+_, _*_, _/_, _%_, _<_}
 use native.Mathlib.Omega.{arith}
 use lib.Dec.{eqb, ltb}
 use borrow.Author.Tests.{lt-ltb, eq-eqb, eqb-true, ltb-true}
-use Rattle.laws.specs.Answer.{Answer, accepted, refused}
+use Rattle.laws.specs.Answer.{accepted, refused}
 use Rattle.laws.specs.Choice.{choose}
 use Rattle.laws.proofs.Digits.{digit}
-use Rattle.insn.specs.declared.Operand.{Operand}
 use Rattle.insn.specs.declared.Operand.the-variants.{D, Q, S, Imm, Float, Other, Absent}
-use Rattle.insn.specs.declared.Refusal.{Refusal}
-use Rattle.insn.specs.Refusals.{number}
 use Rattle.insn.proofs.Promises.{numberedApart}
-use Rattle.fields.specs.declared.Vector.{Vector}
 use Rattle.fields.specs.declared.Vector.the-variants.{Is, Refused}
-use Rattle.fields.specs.declared.VectorBits.{VectorBits}
 use Rattle.fields.specs.declared.VectorBits.the-variants.{Are, Refused as noBits}
-use Rattle.fields.specs.Answers.{vectorAnswer, bitsAnswer}
-use Rattle.fields.specs.Registers.{Bits, bits, vecOf, vecBits}
+use Rattle.fields.specs.Registers.{bits, vecOf, vecBits}
 use Rattle.fields.specs.Halfwords.{first, second}
 use Rattle.fields.specs.Promises.{BitsOfVec, VecOfBits, FirstUnpacked, SecondUnpacked, FirstPacked, SecondPacked, VectorsApart, BitsApart}
 

@@ -1,7 +1,5 @@
 -- What each case of the answers stands for, in the papers' numbers.
 -- Assumes nothing.
-use mathlib.Core.Bool.{Bool}
-use Prim.Native.Nat.{ℕ}
 use Rattle.laws.specs.Answer.{Answer, accepted, refused}
 use Rattle.insn.specs.declared.Operand.{Operand}
 use Rattle.insn.specs.Refusals.{number}

@@ -3,13 +3,13 @@
 use mathlib.Core.Bool.{Bool}
 use mathlib.Core.Path.{_≡_}
 use Prim.Native.Nat.{ℕ, _<_}
-use Rattle.laws.specs.Answer.{Answer, accepted}
+use Rattle.laws.specs.Answer.{accepted}
 use Rattle.insn.specs.declared.Operand.{Operand}
 use Rattle.fields.specs.declared.Vector.{Vector}
 use Rattle.fields.specs.declared.VectorBits.{VectorBits}
 use Rattle.fields.specs.Answers.{vectorAnswer, bitsAnswer}
 use Rattle.fields.specs.Halfwords.{bit, field, first, second}
-use Rattle.fields.specs.Registers.{Bits, bits, vecOf, vecBits}
+use Rattle.fields.specs.Registers.{bits, vecOf, vecBits}
 
 -- a register that a number names has that number, and a register that has a number is named by it
 abbrev pub BitsOfVec : Type 0

@@ -2,20 +2,19 @@
 -- Assumes nothing.
 use mathlib.Core.Path.{_≡_, refl, ap, _∙_}
 use mathlib.Core.Bool.{Bool, true, false}
-use mathlib.Core.List.{List, [], _∷_}
+use mathlib.Core.List.{List, []}
 use Prim.Native.Nat.{ℕ, _+_, _*_, _/_, _%_, _^_, _<_, _≤_}
 use native.Mathlib.Omega.{arith}
 use lib.Dec.{eqb, ltb}
 use lib.IntN.{pos}
 use lib.ListN.{getD, List·getD-eq-default}
 use borrow.Author.Tests.{ltb-true, eqb-true, eqb-false, eq-eqb, ne-eqb}
-use Rattle.laws.specs.Answer.{Answer, accepted, refused}
+use Rattle.laws.specs.Answer.{accepted}
 use Rattle.laws.specs.Choice.{choose}
 use Rattle.laws.proofs.Range.{values, agree, agree2}
-use Rattle.insn.specs.declared.Operand.{Operand}
 use Rattle.insn.specs.declared.Operand.the-variants.{Imm}
 use Rattle.immediates.specs.Floats.{floatBits}
-use Rattle.immediates.specs.Modified.{Constant, undefined, a7-15, constantAt, element, bytesOf, patternIn, operandIn, expandImm, modimmOperand, needsNonzero}
+use Rattle.immediates.specs.Modified.{undefined, a7-15, constantAt, element, bytesOf, patternIn, operandIn, expandImm, modimmOperand, needsNonzero}
 
 -- cmode >> 1 is 1, 2, 3, 5 or 6
 pub nonzero : (cmode : ℕ) (b : Bool) → cmode < 256 → b ≡ choose (eqb (cmode / 2) 0) false (choose (eqb (cmode / 2) 4) false (ltb (cmode / 2) 7)) → b ≡ needsNonzero cmode

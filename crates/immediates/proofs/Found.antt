@@ -2,14 +2,14 @@
 -- Assumes nothing.
 use mathlib.Core.Path.{_≡_, refl, sym, ap, _∙_, subst}
 use mathlib.Core.Bool.{Bool, true, false, not}
-use Prim.Native.Nat.{ℕ, _+_, _*_, _/_, _%_, _^_, _<_}
+use Prim.Native.Nat.{ℕ, _+_, _*_, _/_, _%_, _<_}
 use native.Mathlib.Omega.{arith}
 use lib.Dec.{T}
 use lib.Ieee.{Float, nan, inf, fin, binary64, eq, fits, isNan, toBits}
 use Rattle.laws.specs.Choice.{choose}
 use Rattle.laws.proofs.Range.{values, agree}
-use Rattle.tables.specs.Search.{at, none}
-use Rattle.tables.proofs.Search.{nothing, candidate}
+use Rattle.laws.specs.Search.{at, none}
+use Rattle.laws.proofs.Search.{nothing, candidate}
 use Rattle.immediates.specs.Floats.{floatOf}
 use Rattle.immediates.specs.Found.{findFloat}
 use Rattle.immediates.proofs.Same.{only}

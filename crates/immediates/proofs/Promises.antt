@@ -5,15 +5,14 @@ use mathlib.Core.Bool.{Bool, true, false}
 use Prim.Native.Nat.{ℕ, _-_, _/_, _%_, _^_, _<_}
 use native.Mathlib.Nat.{mul-one}
 use native.Mathlib.Omega.{arith}
-use lib.Dec.{leb, ltb, eqb}
-use lib.IntN.{ℤ, pos, negsuc}
-use lib.Signed.{mag}
+use lib.Dec.{leb, ltb}
+use lib.IntN.{pos, negsuc}
 use lib.Ieee.{binary32, ofBits}
-use lib.Ieee.Exact.{HasValue, odd-sign}
-use borrow.Author.Tests.{lt-ltb, le-ltb, ltb-true, ltb-false, leb-true}
+use lib.Ieee.Exact.{odd-sign}
+use borrow.Author.Tests.{ltb-true, ltb-false, leb-true}
 use Rattle.laws.specs.Choice.{choose}
 use Rattle.laws.proofs.Range.{values, agree, agree2}
-use Rattle.tables.specs.declared.ShiftClass.the-variants.{Right, Left, Convert}
+use Rattle.tables.specs.declared.ShiftClass.the-variants.{Right, Left}
 use Rattle.immediates.specs.Signed.{signedOf, patternOf}
 use Rattle.immediates.specs.Floats.{kOf, floatOf, floatBits}
 use Rattle.immediates.specs.Shifts.{isEscape, codeOf, bitsOf, rightEnd, leftStart, amountOf}

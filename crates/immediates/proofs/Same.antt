@@ -2,15 +2,13 @@
 -- Assumes nothing.
 use mathlib.Core.Path.{_≡_, refl, sym, ap, _∙_, subst}
 use mathlib.Core.Bool.{Bool, true, false, _&&_, _||_, Bool·beq}
-use Prim.Native.Nat.{ℕ, zero, suc, _+_, _*_, _%_, _^_, _<_}
-use native.Mathlib.Nat.{mul-one, one-mul, mul-assoc, mul-left-comm, mul-pos, zero-lt-suc, pow-succ', eq-of-mul-eq-mul-right, lt-irrefl, zero-mul}
+use Prim.Native.Nat.{ℕ, zero, suc, _*_, _%_, _^_, _<_}
+use native.Mathlib.Nat.{mul-one, mul-pos, zero-lt-suc, pow-succ', lt-irrefl, zero-mul}
 use native.Mathlib.Omega.{arith}
 use lib.Dec.{T, eqb, leb, ltb, eqb→eq, eqb·suc-zero}
 use lib.IntN.{ℤ, pos, negsuc}
-use lib.Pow.{pow-pos}
-use lib.Ieee.{Float, nan, inf, fin, Format, binary64, prec, low, emax, up, down, fits, eq, level}
+use lib.Ieee.{Float, nan, inf, fin, Format, binary64, prec, low, emax, up, down, fits, eq}
 use lib.Ieee.Fits.{and-l, and-r, up-pos, down-pos}
-use borrow.Author.Tests.{eqb-true}
 use Rattle.laws.proofs.Range.{values, agree}
 use Rattle.immediates.specs.Floats.{floatOf}
 

@@ -3,7 +3,7 @@
 use Prim.Native.Nat.{ℕ}
 use Rattle.laws.specs.Answer.{Answer, accepted, refused}
 use Rattle.insn.specs.Refusals.{number}
-use Rattle.tables.specs.Search.{Found, at, none}
+use Rattle.laws.specs.Search.{Found, at, none}
 use Rattle.immediates.specs.declared.float.FloatFound.{FloatFound}
 use Rattle.immediates.specs.declared.float.FloatFound.the-variants.{Imm8, NoImm8}
 use Rattle.immediates.specs.declared.modified.Expansion.{Expansion}

@@ -2,7 +2,7 @@
 -- Assumes nothing.
 use Prim.Native.Nat.{ℕ}
 use lib.Ieee.{Float, eq}
-use Rattle.tables.specs.Search.{Found, firstBelow}
+use Rattle.laws.specs.Search.{Found, firstBelow}
 use Rattle.immediates.specs.Floats.{floatOf}
 
 -- the imm8 whose float compares equal to x, if there is one; zeros, infinities and NaN have none (Promises.FloatOnce)

@@ -4,14 +4,12 @@
 use mathlib.Core.Bool.{Bool, true, false}
 use mathlib.Core.List.{List, [], _∷_, _++_}
 use Prim.Native.Nat.{ℕ, zero, suc, _+_, _-_, _*_, _/_, _%_, _^_}
-use lib.Dec.{eqb}
-use lib.IntN.{ℤ, pos}
+use lib.IntN.{pos}
 use lib.ListN.{getD}
 use Rattle.laws.specs.Answer.{Answer, accepted, refused}
-use Rattle.laws.specs.Choice.{choose}
 use Rattle.insn.specs.declared.Operand.{Operand}
 use Rattle.insn.specs.declared.Operand.the-variants.{Imm, Float, Absent}
-use Rattle.fields.specs.Halfwords.{bit, field}
+use Rattle.fields.specs.Halfwords.{bit}
 use Rattle.immediates.specs.Floats.{floatOf, floatBits}
 use Rattle.immediates.specs.Signed.{signedOf}
 

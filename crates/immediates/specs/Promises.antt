@@ -8,7 +8,7 @@ use lib.IntN.{ℤ}
 use lib.Signed.{mag}
 use lib.Ieee.{Float, binary32, binary64, ofBits, eq, fits}
 use lib.Ieee.Exact.{HasValue}
-use Rattle.tables.specs.Search.{at}
+use Rattle.laws.specs.Search.{at}
 use Rattle.tables.specs.declared.ShiftClass.the-variants.{Right, Left, Convert}
 use Rattle.immediates.specs.Shifts.{isEscape, codeOf, bitsOf, amountOf}
 use Rattle.immediates.specs.Signed.{signedOf, patternOf}

@@ -1,6 +1,6 @@
 -- Shift amounts: A7.4.4 and the pages of the shifts. L is hw2 bit 7, imm6 is hw1 bits 5..0.
 -- Assumes nothing.
-use mathlib.Core.Bool.{Bool, true, false}
+use mathlib.Core.Bool.{Bool, false}
 use Prim.Native.Nat.{ℕ, _-_, _*_, _^_}
 use lib.Dec.{eqb}
 use Rattle.laws.specs.Choice.{choose}

@@ -1,5 +1,6 @@
 pub mod Digits
 pub mod Padded
 pub mod Range
+pub mod Search
 pub mod Tables
 pub mod Tests

@@ -1,6 +1,6 @@
 -- Two functions that agree at every number below n, shown by one computation: the lists of their values are the same list.
 -- Assumes nothing.
-use mathlib.Core.Path.{_≡_, refl, ap, sym, subst, _∙_}
+use mathlib.Core.Path.{_≡_}
 use mathlib.Core.List.{List, [], _∷_}
 use Prim.Native.Nat.{ℕ, zero, suc, _+_, _-_, _*_, _/_, _%_, _<_, _≤_}
 use lib.Arith.{digits-lt, digits-div, digits-mod}

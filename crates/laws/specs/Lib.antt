@@ -1,2 +1,3 @@
 pub mod Answer
 pub mod Choice
+pub mod Search

@@ -1,8 +1,8 @@
 -- What the meaning of a record can be: refusal 10, or an operation on registers that the file has, the first place's its target.
 -- Assumes nothing.
-use mathlib.Core.Path.{_≡_, refl, subst, ap, sym, _∙_}
+use mathlib.Core.Path.{_≡_, refl, subst}
 use mathlib.Core.Bool.{Bool, true, false, Bool·beq}
-use Prim.Native.Nat.{ℕ, _+_, _*_, _%_, _^_, _<_, _≤_}
+use Prim.Native.Nat.{ℕ, _+_, _*_, _^_, _<_}
 use native.Mathlib.Nat.{mod-lt}
 use native.Mathlib.Omega.{arith}
 use lib.Dec.{ltb, leb, eqb, lit<}
@@ -13,7 +13,7 @@ use Rattle.insn.specs.declared.Insn.{Insn}
 use Rattle.insn.specs.declared.Operand.{Operand}
 use Rattle.insn.specs.declared.Operand.the-variants.{D, Q, S, Imm, Float, Other, Absent}
 use Rattle.tables.specs.Names.{nameOf}
-use Rattle.tables.specs.Search.{Found, at, none}
+use Rattle.laws.specs.Search.{Found, at, none}
 use Rattle.fields.specs.Registers.{Bits, bits, vecBits}
 use Rattle.immediates.specs.Floats.{floatBits}
 use Rattle.immediates.specs.Found.{findFloat}

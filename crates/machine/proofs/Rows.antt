@@ -1,12 +1,11 @@
 -- An operation on 128 bits is the operation on each half.
 -- Assumes nothing.
-use mathlib.Core.Path.{_≡_, refl, sym, ap, _∙_}
+use mathlib.Core.Path.{_≡_, refl, ap, _∙_}
 use Prim.Native.Nat.{ℕ, _+_, _-_, _*_, _/_, _%_, _^_, _<_}
 use native.Mathlib.Nat.{add-zero, add-comm, mul-comm, mul-add, mul-one, add-mul-mod-self-left, add-mul-div-left, mod-eq-of-lt, div-eq-of-lt, zero-add}
 use native.Mathlib.Omega.{arith}
 use lib.Bits.{bitAnd, bitOr, bitXor, and-block, or-block, xor-block, and-lt, or-lt, xor-lt}
 use lib.Pow.{pow-pos}
-use Rattle.lanes.specs.Lane.{lanesOf}
 use Rattle.lanes.proofs.Promises.{row, lanesBelow}
 use Rattle.machine.specs.declared.operations.BitOp.{BitOp}
 use Rattle.machine.specs.declared.operations.BitOp.the-variants.{And, Orr, Eor, Bic, Orn, Mov, Bsl, Bit, Bif}

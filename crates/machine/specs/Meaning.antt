@@ -10,7 +10,7 @@ use Rattle.insn.specs.declared.Insn.{Insn}
 use Rattle.insn.specs.declared.Operand.{Operand}
 use Rattle.insn.specs.declared.Operand.the-variants.{D, Q, S, Imm, Float, Other, Absent}
 use Rattle.tables.specs.Names.{nameOf}
-use Rattle.tables.specs.Search.{Found, at, none}
+use Rattle.laws.specs.Search.{Found, at, none}
 use Rattle.fields.specs.Registers.{Bits, bits, vecBits}
 use Rattle.immediates.specs.Floats.{floatBits}
 use Rattle.immediates.specs.Found.{findFloat}

@@ -14,10 +14,10 @@ use Rattle.laws.specs.Answer.{accepted}
 use Rattle.laws.specs.Choice.{choose}
 use Rattle.laws.proofs.Range.{values, agree, agree2}
 use Rattle.insn.specs.declared.Operand.the-variants.{Imm}
-use Rattle.tables.specs.Search.{Found, at, none, firstBelow}
+use Rattle.laws.specs.Search.{Found, at, none, firstBelow}
 use Rattle.tables.specs.Modimm.{modimm}
 use Rattle.tables.specs.declared.ShiftClass.the-variants.{Right, Left}
-use Rattle.tables.proofs.Search.{all-fail}
+use Rattle.laws.proofs.Search.{all-fail}
 use Rattle.fields.specs.Halfwords.{bit, field}
 use Rattle.immediates.specs.Modified.{constantAt, element, operandIn, needsNonzero}
 use Rattle.immediates.specs.Shifts.{isEscape, codeOf, rightEnd, leftStart}

@@ -24,7 +24,7 @@ use Rattle.tables.specs.declared.ShiftClass.the-variants.{Right, Left, N
 use Rattle.tables.specs.declared.home.Home.{Home}
 use Rattle.tables.specs.declared.home.Home.the-variants.{Same3, Shift, Vmovl, Modimm, Diff, Vmov, Nowhere}
 use Rattle.tables.proofs.Homes.{homeAt, no-home}
-use Rattle.tables.proofs.Search.{never}
+use Rattle.laws.proofs.Search.{never}
 
 -- the cell at a place of a table of four columns
 abbrev pub cell4 : List (List String) → ℕ → String

@@ -4,6 +4,5 @@ pub mod Homes
 pub mod Known
 pub mod Listed
 pub mod Promises
-pub mod Search
 pub mod Spellings
 pub mod Widths

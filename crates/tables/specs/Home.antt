@@ -6,7 +6,7 @@ use Prim.Native.Nat.{ℕ, suc}
 use Prim.Native.String.{String}
 use lib.Text.{eqt}
 use Rattle.laws.specs.Choice.{choose}
-use Rattle.tables.specs.Search.{Found, at, none}
+use Rattle.laws.specs.Search.{Found, at, none}
 use Rattle.tables.specs.Same3.{same3}
 use Rattle.tables.specs.Shift.{shiftCells, vmovl}
 use Rattle.tables.specs.Modimm.{modimm}

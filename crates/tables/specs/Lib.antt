@@ -1,5 +1,4 @@
 pub mod Cells
-pub mod Search
 pub mod Same3
 pub mod Shift
 pub mod Modimm

@@ -1,9 +1,9 @@
 -- `decode::family_of` meets its contract.
 -- Assumes nothing.
-use borrow.Author.Needs.{needs}
-use borrow.Author.Tests.{eq-eqb, ne-eqb}
 use mathlib.Core.Path.{sym, _∙_}
 use native.Mathlib.Nat.{div-one}
+use borrow.Author.Needs.{needs}
+use borrow.Author.Tests.{eq-eqb, ne-eqb}
 use Rattle.decode.specs.Reading.{familyOf}
 use Rattle.decode.proofs.family_of.Statement.{statement}
 use Rattle.decode.proofs.family_of.Tie as tie

@@ -1,5 +1,7 @@
-use mathlib.Core.Path.{_∙_, ap}
+-- `lanes::lane` meets its contract.
+-- Assumes nothing.
 use mathlib.Core.Bool.{Bool, not}
+use mathlib.Core.Path.{_∙_, ap}
 use Prim.Native.Nat.{ℕ, _+_, _*_, _%_, _^_}
 use native.Mathlib.Omega.{arith}
 use lib.IntN.{pos, _-ℤ_}

@@ -1,6 +1,8 @@
+-- `lanes::place` meets its contract.
+-- Assumes nothing.
 use Prim.Native.Nat.{_^_, _<_}
-use native.Mathlib.Omega.{arith}
 use native.Mathlib.Nat.{mod-lt}
+use native.Mathlib.Omega.{arith}
 use lib.Pow.{pow-pos}
 use borrow.Author.Needs.{needs}
 use Rattle.lanes.proofs.Numbers.{placed, placed-fits}

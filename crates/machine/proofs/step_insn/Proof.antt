@@ -1,6 +1,6 @@
 -- `machine::step_insn` meets its contract.
 -- Assumes nothing.
-use mathlib.Core.Path.{_≡_, sym, ap, _∙_}
+use mathlib.Core.Path.{sym, ap, _∙_}
 use borrow.Author.Needs.{needs}
 use Rattle.laws.specs.Answer.{accepted}
 use Rattle.machine.specs.Answers.{meaningAnswer}

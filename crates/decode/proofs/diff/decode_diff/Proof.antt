@@ -1,13 +1,13 @@
 -- `decode::diff::decode_diff` meets its contract.
 -- Assumes nothing.
-use mathlib.Core.Path.{_≡_, _∙_}
-use Prim.Native.Nat.{ℕ, _+_, _*_, _/_, _%_}
+use mathlib.Core.Path.{_∙_}
+use Prim.Native.Nat.{_+_, _*_, _/_, _%_}
 use native.Mathlib.Nat.{div-one}
 use native.Mathlib.Omega.{arith}
 use borrow.Author.Needs.{needs}
-use Rattle.tables.specs.Diff.{diffCells}
 use Rattle.tables.proofs.Known.{diff-known}
 use Rattle.tables.proofs.Widths.{flat-cell}
+use Rattle.tables.specs.Diff.{diffCells}
 use Rattle.decode.specs.Diff.{diffReading}
 use Rattle.decode.proofs.diff.decode_diff.Statement.{statement}
 use Rattle.decode.proofs.diff.decode_diff.Tie as tie

@@ -1,16 +1,16 @@
 -- `decode::modimm::with_register` meets its contract.
 -- Assumes nothing.
-use mathlib.Core.Path.{_≡_, sym, ap, _∙_}
 use mathlib.Core.Bool.{true, false}
+use mathlib.Core.Path.{_≡_, sym, ap, _∙_}
 use Prim.Native.String.{String}
 use native.Mathlib.Omega.{arith}
 use lib.Text.{eqt}
 use borrow.Author.Needs.{needs}
-use Rattle.tables.specs.Cells.{cellAt}
-use Rattle.tables.specs.Names.{numberOf}
-use Rattle.tables.specs.Modimm.{modimm}
 use Rattle.tables.proofs.Known.{named, unnamed, modimm-known}
 use Rattle.tables.proofs.Widths.{flat-cell}
+use Rattle.tables.specs.Cells.{cellAt}
+use Rattle.tables.specs.Modimm.{modimm}
+use Rattle.tables.specs.Names.{numberOf}
 use Rattle.decode.specs.Modimm.{modimmOf}
 use Rattle.decode.proofs.modimm.with_register.Statement.{statement}
 use Rattle.decode.proofs.modimm.with_register.Tie as tie

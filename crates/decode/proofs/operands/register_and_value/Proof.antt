@@ -1,6 +1,5 @@
 -- `decode::operands::register_and_value` meets its contract.
 -- Assumes nothing.
-use native.Mathlib.Omega.{arith}
 use borrow.Author.Needs.{needs}
 use Rattle.decode.specs.Operands.{two}
 use Rattle.decode.proofs.Vectors.{even, one-odd}

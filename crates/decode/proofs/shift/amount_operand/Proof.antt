@@ -1,11 +1,11 @@
 -- `decode::shift::amount_operand` meets its contract.
 -- Assumes nothing.
-use borrow.Author.Needs.{needs}
 use mathlib.Core.Path.{ap}
 use native.Mathlib.Omega.{arith}
 use lib.IntN.{ℤ}
-use mir.Syntax.{w64}
 use mir.Facts.{toZ-pos}
+use mir.Syntax.{w64}
+use borrow.Author.Needs.{needs}
 use Rattle.laws.specs.Answer.{accepted}
 use Rattle.insn.specs.declared.Operand.the-variants.{Imm}
 use Rattle.decode.proofs.shift.amount_operand.Statement.{statement}

@@ -1,8 +1,8 @@
 -- `decode::shift::column` meets its contract.
 -- Assumes nothing.
-use borrow.Author.Needs.{needs}
 use mathlib.Core.Path.{refl}
 use native.Mathlib.Omega.{arith}
+use borrow.Author.Needs.{needs}
 use Rattle.immediates.proofs.Shifts.{code-lt}
 use Rattle.decode.specs.Shift.{columnOf}
 use Rattle.decode.proofs.shift.column.Statement.{statement}

@@ -1,16 +1,16 @@
 -- `decode::shift::with_class` meets its contract.
 -- Assumes nothing.
-use mathlib.Core.Path.{_≡_, sym, ap, _∙_}
 use mathlib.Core.Bool.{true, false}
+use mathlib.Core.Path.{_≡_, sym, ap, _∙_}
 use Prim.Native.String.{String}
 use native.Mathlib.Omega.{arith}
 use lib.Text.{eqt}
 use borrow.Author.Needs.{needs}
+use Rattle.tables.proofs.Known.{named, unnamed, shift-known}
+use Rattle.tables.proofs.Widths.{flat-cell}
 use Rattle.tables.specs.Cells.{cellAt}
 use Rattle.tables.specs.Names.{numberOf}
 use Rattle.tables.specs.Shift.{shiftCells, vmovl}
-use Rattle.tables.proofs.Known.{named, unnamed, shift-known}
-use Rattle.tables.proofs.Widths.{flat-cell}
 use Rattle.decode.specs.Shift.{shiftOf}
 use Rattle.decode.proofs.shift.with_class.Statement.{statement}
 use Rattle.decode.proofs.shift.with_class.Tie as tie

@@ -1,8 +1,8 @@
 -- `encode::diff::diff_pair` meets its contract.
 -- Assumes nothing.
-use mathlib.Core.Path.{ap, _∙_}
-use Rattle.laws.specs.Answer.{accepted}
+use mathlib.Core.Path.{ap}
 use borrow.Author.Needs.{needs}
+use Rattle.laws.specs.Answer.{accepted}
 use Rattle.encode.proofs.Pairs.{diff-packed}
 use Rattle.encode.proofs.diff.diff_pair.Statement.{statement}
 use Rattle.encode.proofs.diff.diff_pair.Tie as tie

@@ -1,7 +1,7 @@
 -- `encode::modimm::encode_modimm` meets its contract.
 -- Assumes nothing.
-use borrow.Author.Tests.{eq-eqb, ne-eqb, lt-ltb, le-ltb}
 use borrow.Author.Needs.{needs}
+use borrow.Author.Tests.{eq-eqb, ne-eqb}
 use Rattle.encode.specs.Modimm.{modimmWriting}
 use Rattle.encode.proofs.modimm.encode_modimm.Statement.{statement}
 use Rattle.encode.proofs.modimm.encode_modimm.Tie as tie

@@ -1,18 +1,18 @@
 -- `encode::modimm::immediate` meets its contract.
 -- Assumes nothing.
-use mathlib.Core.Path.{_≡_}
 use mathlib.Core.Bool.{false}
+use mathlib.Core.Path.{_≡_}
 use Prim.Native.Nat.{ℕ}
 use lib.Dec.{eqb}
 use lib.Text.{eqt}
-use mir.Syntax.{w64}
 use mir.Facts.{toZ-ofZ}
-use borrow.Author.Tests.{eq-eqb, ne-eqb, lt-ltb, le-ltb}
+use mir.Syntax.{w64}
 use borrow.Author.Needs.{needs}
+use borrow.Author.Tests.{eq-eqb, ne-eqb}
+use Rattle.tables.proofs.Cells.{modimm-stands}
 use Rattle.tables.specs.Home.{homeOf}
 use Rattle.tables.specs.Names.{names, nameOf}
 use Rattle.tables.specs.declared.home.Home.the-variants.{Modimm}
-use Rattle.tables.proofs.Cells.{modimm-stands}
 use Rattle.encode.specs.Modimm.{immediateIn}
 use Rattle.encode.proofs.Immediates.{float-name}
 use Rattle.encode.proofs.modimm.immediate.Statement.{statement}

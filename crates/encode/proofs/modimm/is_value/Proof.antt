@@ -1,9 +1,9 @@
 -- `encode::modimm::is_value` meets its contract.
 -- Assumes nothing.
 use mathlib.Core.Path.{sym, ap, _∙_}
+use mir.Facts.{toZ-ofZ}
 use mir.Syntax.{w64}
 use mir.Val.{toZ, ofZ}
-use mir.Facts.{toZ-ofZ}
 use borrow.Author.Needs.{needs}
 use Rattle.encode.proofs.Tests.{number-same, number-other}
 use Rattle.encode.proofs.modimm.is_value.Statement.{statement}

@@ -1,8 +1,8 @@
 -- `encode::modimm::modimm_pair` meets its contract.
 -- Assumes nothing.
 use mathlib.Core.Path.{ap}
-use Rattle.laws.specs.Answer.{accepted}
 use borrow.Author.Needs.{needs}
+use Rattle.laws.specs.Answer.{accepted}
 use Rattle.encode.proofs.Pairs.{modimm-packed}
 use Rattle.encode.proofs.modimm.modimm_pair.Statement.{statement}
 use Rattle.encode.proofs.modimm.modimm_pair.Tie as tie

@@ -3,8 +3,8 @@
 use mathlib.Core.Bool.{false}
 use mir.Facts.{toZ-ofZ}
 use borrow.Author.Needs.{needs}
-use Rattle.tables.specs.Names.{nameOf}
 use Rattle.tables.proofs.Cells.{modimm-stands}
+use Rattle.tables.specs.Names.{nameOf}
 use Rattle.immediates.proofs.Promises.{signedBack}
 use Rattle.encode.proofs.Immediates.{number-place}
 use Rattle.encode.proofs.modimm.number_immediate.Statement.{statement}

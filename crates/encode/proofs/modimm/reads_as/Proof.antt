@@ -2,10 +2,10 @@
 -- Assumes nothing.
 use mathlib.Core.Path.{_≡_, sym, _∙_}
 use Prim.Native.Nat.{ℕ, _/_, _%_, _<_}
-use Rattle.fields.specs.Halfwords.{bit, field}
 use native.Mathlib.Omega.{arith}
 use mir.Facts.{toZ-ofZ}
 use borrow.Author.Needs.{needs}
+use Rattle.fields.specs.Halfwords.{bit, field}
 use Rattle.encode.specs.Modimm.{readsAs}
 use Rattle.encode.proofs.Immediates.{its-name, other-name}
 use Rattle.encode.proofs.modimm.reads_as.Statement.{statement}

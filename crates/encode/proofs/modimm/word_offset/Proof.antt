@@ -1,8 +1,8 @@
 -- `encode::modimm::word_offset` meets its contract.
 -- Assumes nothing.
-use borrow.Author.Tests.{eq-eqb, ne-eqb, lt-ltb, le-ltb}
 use native.Mathlib.Omega.{arith}
 use borrow.Author.Needs.{needs}
+use borrow.Author.Tests.{eq-eqb, ne-eqb, lt-ltb, le-ltb}
 use Rattle.encode.proofs.modimm.word_offset.Statement.{statement}
 use Rattle.encode.proofs.modimm.word_offset.Tie as tie
 

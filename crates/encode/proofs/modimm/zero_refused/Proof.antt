@@ -1,7 +1,7 @@
 -- `encode::modimm::zero_refused` meets its contract.
 -- Assumes nothing.
-use borrow.Author.Tests.{eq-eqb, ne-eqb, lt-ltb, le-ltb}
 use borrow.Author.Needs.{needs}
+use borrow.Author.Tests.{eq-eqb, ne-eqb}
 use Rattle.encode.proofs.modimm.zero_refused.Statement.{statement}
 use Rattle.encode.proofs.modimm.zero_refused.Tie as tie
 

@@ -1,7 +1,7 @@
 -- `encode::same3::encode_same3` meets its contract.
 -- Assumes nothing.
-use borrow.Author.Tests.{eq-eqb, ne-eqb}
 use borrow.Author.Needs.{needs}
+use borrow.Author.Tests.{eq-eqb, ne-eqb}
 use Rattle.encode.specs.Same3.{same3Writing}
 use Rattle.encode.proofs.same3.encode_same3.Statement.{statement}
 use Rattle.encode.proofs.same3.encode_same3.Tie as tie

@@ -1,7 +1,7 @@
 -- `encode::same3::encode_vmov` meets its contract.
 -- Assumes nothing.
-use borrow.Author.Tests.{eq-eqb, ne-eqb}
 use borrow.Author.Needs.{needs}
+use borrow.Author.Tests.{eq-eqb, ne-eqb}
 use Rattle.tables.specs.Names.{names, nameOf}
 use Rattle.encode.specs.Same3.{vmovWriting}
 use Rattle.encode.proofs.same3.encode_vmov.Statement.{statement}

@@ -3,8 +3,8 @@
 use mathlib.Core.Path.{_≡_}
 use Prim.Native.Nat.{ℕ, _/_, _%_}
 use native.Mathlib.Omega.{arith}
-use borrow.Author.Tests.{eq-eqb, ne-eqb}
 use borrow.Author.Needs.{needs}
+use borrow.Author.Tests.{eq-eqb, ne-eqb}
 use Rattle.encode.specs.Same3.{same3Form}
 use Rattle.encode.proofs.same3.same3_form.Statement.{statement}
 use Rattle.encode.proofs.same3.same3_form.Tie as tie

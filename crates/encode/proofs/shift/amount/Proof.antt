@@ -1,7 +1,7 @@
 -- `encode::shift::amount` meets its contract.
 -- Assumes nothing.
-use mir.Syntax.{w64}
 use mir.Facts.{toZ-ofZ}
+use mir.Syntax.{w64}
 use borrow.Author.Needs.{needs}
 use Rattle.encode.specs.Shift.{amountIn}
 use Rattle.encode.proofs.shift.amount.Statement.{statement}

@@ -1,7 +1,7 @@
 -- `encode::shift::counted_down` meets its contract.
 -- Assumes nothing.
-use borrow.Author.Tests.{eq-eqb, ne-eqb, lt-ltb, le-ltb}
 use borrow.Author.Needs.{needs}
+use borrow.Author.Tests.{eq-eqb, ne-eqb, lt-ltb, le-ltb}
 use Rattle.encode.proofs.shift.counted_down.Statement.{statement}
 use Rattle.encode.proofs.shift.counted_down.Tie as tie
 

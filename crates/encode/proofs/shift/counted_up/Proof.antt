@@ -1,7 +1,7 @@
 -- `encode::shift::counted_up` meets its contract.
 -- Assumes nothing.
-use borrow.Author.Tests.{lt-ltb, le-ltb}
 use borrow.Author.Needs.{needs}
+use borrow.Author.Tests.{lt-ltb, le-ltb}
 use Rattle.encode.proofs.shift.counted_up.Statement.{statement}
 use Rattle.encode.proofs.shift.counted_up.Tie as tie
 

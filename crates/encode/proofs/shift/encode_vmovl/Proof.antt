@@ -3,9 +3,9 @@
 use mathlib.Core.Path.{_≡_}
 use Prim.Native.Nat.{ℕ, _%_}
 use native.Mathlib.Omega.{arith}
-use Rattle.fields.specs.Halfwords.{field}
-use borrow.Author.Tests.{eq-eqb, ne-eqb}
 use borrow.Author.Needs.{needs}
+use borrow.Author.Tests.{eq-eqb, ne-eqb}
+use Rattle.fields.specs.Halfwords.{field}
 use Rattle.encode.specs.Shift.{vmovlWriting}
 use Rattle.encode.proofs.shift.encode_vmovl.Statement.{statement}
 use Rattle.encode.proofs.shift.encode_vmovl.Tie as tie

@@ -1,8 +1,8 @@
 -- `encode::shift::shift_pair` meets its contract.
 -- Assumes nothing.
 use mathlib.Core.Path.{ap}
-use Rattle.laws.specs.Answer.{accepted}
 use borrow.Author.Needs.{needs}
+use Rattle.laws.specs.Answer.{accepted}
 use Rattle.encode.proofs.Pairs.{shift-packed}
 use Rattle.encode.proofs.shift.shift_pair.Statement.{statement}
 use Rattle.encode.proofs.shift.shift_pair.Tie as tie

@@ -1,8 +1,8 @@
 -- `immediates::modified::element_of` meets its contract.
 -- Assumes nothing.
+use native.Mathlib.Omega.{arith}
 use borrow.Author.Needs.{needs}
 use Rattle.laws.proofs.Tests.{tests}
-use native.Mathlib.Omega.{arith}
 use Rattle.immediates.proofs.Expansions.{row-element, past-element}
 use Rattle.immediates.proofs.modified.element_of.Statement.{statement}
 use Rattle.immediates.proofs.modified.element_of.Tie as tie

@@ -1,7 +1,7 @@
 -- `immediates::modified::expand_imm` meets its contract.
 -- Assumes nothing.
-use borrow.Author.Needs.{needs}
 use native.Mathlib.Omega.{arith}
+use borrow.Author.Needs.{needs}
 use Rattle.immediates.specs.Modified.{constantAt, element, patternIn}
 use Rattle.immediates.proofs.Expansions.{no-op, no-last, either}
 use Rattle.immediates.proofs.modified.expand_imm.Statement.{statement}

@@ -1,7 +1,7 @@
 -- `immediates::modified::expand_plain` meets its contract.
 -- Assumes nothing.
-use borrow.Author.Needs.{needs}
 use native.Mathlib.Omega.{arith}
+use borrow.Author.Needs.{needs}
 use borrow.Author.Tests.{eq-eqb, ne-eqb}
 use Rattle.immediates.specs.Modified.{patternIn}
 use Rattle.immediates.proofs.Expansions.{no-cmode, row-pattern, byte-element, halfword-element}

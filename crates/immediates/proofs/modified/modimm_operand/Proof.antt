@@ -1,10 +1,10 @@
 -- `immediates::modified::modimm_operand` meets its contract.
 -- Assumes nothing.
-use borrow.Author.Needs.{needs}
 use mathlib.Core.Path.{ap, _∙_}
 use native.Mathlib.Omega.{arith}
-use mir.Syntax.{w64}
 use mir.Facts.{toZ-ofZ}
+use mir.Syntax.{w64}
+use borrow.Author.Needs.{needs}
 use Rattle.insn.specs.declared.Operand.the-variants.{Imm}
 use Rattle.immediates.specs.Modified.{constantAt, element, operandIn}
 use Rattle.immediates.proofs.Expansions.{no-op, no-last, either}

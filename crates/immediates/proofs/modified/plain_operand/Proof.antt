@@ -1,11 +1,10 @@
 -- `immediates::modified::plain_operand` meets its contract.
 -- Assumes nothing.
-use borrow.Author.Needs.{needs}
 use mathlib.Core.Path.{ap, _∙_}
 use native.Mathlib.Omega.{arith}
-use lib.IntN.{pos}
-use mir.Syntax.{w64}
 use mir.Facts.{toZ-pos}
+use mir.Syntax.{w64}
+use borrow.Author.Needs.{needs}
 use Rattle.insn.specs.declared.Operand.the-variants.{Imm}
 use Rattle.immediates.specs.Modified.{constantAt, operandIn}
 use Rattle.immediates.proofs.Expansions.{no-cmode, row-operand}

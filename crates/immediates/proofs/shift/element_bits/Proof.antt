@@ -1,9 +1,9 @@
 -- `immediates::shift::element_bits` meets its contract.
 -- Assumes nothing.
-use borrow.Author.Needs.{needs}
 use mathlib.Core.Path.{ap, _∙_}
 use Prim.Native.Nat.{ℕ, _*_, _%_, _^_}
 use native.Mathlib.Omega.{arith}
+use borrow.Author.Needs.{needs}
 use Rattle.immediates.proofs.Shifts.{code-lt, shifted, bits-le}
 use Rattle.immediates.proofs.shift.element_bits.Statement.{statement}
 use Rattle.immediates.proofs.shift.element_bits.Tie as tie

@@ -1,9 +1,9 @@
 -- `immediates::signed::signed_of` meets its contract.
 -- Assumes nothing.
-use borrow.Author.Needs.{needs}
 use mathlib.Core.Path.{sym, _∙_}
-use mir.Syntax.{w64}
 use mir.Facts.{toZ-pos}
+use mir.Syntax.{w64}
+use borrow.Author.Needs.{needs}
 use Rattle.immediates.proofs.Signs.{signed-low, high-fits, high-is}
 use Rattle.immediates.proofs.signed.signed_of.Statement.{statement}
 use Rattle.immediates.proofs.signed.signed_of.Tie as tie

@@ -1,3 +1,5 @@
+-- `lanes::arith::cut` meets its contract.
+-- Assumes nothing.
 use mathlib.Core.Path.{_∙_, ap}
 use Prim.Native.Nat.{ℕ}
 use lib.Bits.{bitAnd, and-mask}

@@ -1,3 +1,5 @@
+-- `lanes::arith::difference` meets its contract.
+-- Assumes nothing.
 use mathlib.Core.Path.{sym, _∙_, ap}
 use Prim.Native.Nat.{ℕ, _+_, _%_, _^_}
 use native.Mathlib.Omega.{arith}

@@ -1,3 +1,5 @@
+-- `lanes::arith::ones` meets its contract.
+-- Assumes nothing.
 use native.Mathlib.Omega.{arith}
 use borrow.Author.Needs.{needs}
 use Rattle.lanes.proofs.Numbers.{ones-shr}

@@ -1,5 +1,7 @@
-use mathlib.Core.Path.{sym, _∙_}
+-- `lanes::arith::ones_if` meets its contract.
+-- Assumes nothing.
 use mathlib.Core.Bool.{true, false}
+use mathlib.Core.Path.{sym, _∙_}
 use borrow.Author.Needs.{needs}
 use Rattle.lanes.proofs.Signs.{mask}
 use Rattle.lanes.proofs.arith.ones_if.Statement.{statement}

@@ -1,3 +1,5 @@
+-- `lanes::arith::product` meets its contract.
+-- Assumes nothing.
 use native.Mathlib.Omega.{arith}
 use borrow.Author.Needs.{needs}
 use Rattle.lanes.proofs.Numbers.{below, product-is}

@@ -1,5 +1,7 @@
-use native.Mathlib.Omega.{arith}
+-- `lanes::whole::lane_of` meets its contract.
+-- Assumes nothing.
 use native.Mathlib.Nat.{mod-lt}
+use native.Mathlib.Omega.{arith}
 use lib.Pow.{pow-pos, le-ones}
 use borrow.Author.Needs.{needs}
 use Rattle.lanes.specs.Lane.{modulo}

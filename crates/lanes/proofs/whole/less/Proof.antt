@@ -1,3 +1,5 @@
+-- `lanes::whole::less` meets its contract.
+-- Assumes nothing.
 use native.Mathlib.Omega.{arith}
 use borrow.Author.Needs.{needs}
 use Rattle.lanes.specs.Lane.{readAs}

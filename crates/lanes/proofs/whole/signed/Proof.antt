@@ -1,3 +1,5 @@
+-- `lanes::whole::signed` meets its contract.
+-- Assumes nothing.
 use mathlib.Core.Path.{_∙_, ap}
 use Prim.Native.Nat.{_-_, _*_, _^_}
 use native.Mathlib.Omega.{arith}
@@ -7,8 +9,8 @@ use lib.Signed.{shrZ}
 use mir.Syntax.{w64}
 use mir.Val.{toZ, ofZ}
 use borrow.Author.Needs.{needs}
-use Rattle.lanes.specs.declared.Sign.the-variants.{Signed}
 use Rattle.lanes.specs.Lane.{readAs}
+use Rattle.lanes.specs.declared.Sign.the-variants.{Signed}
 use Rattle.lanes.proofs.Signs.{extended}
 use Rattle.lanes.proofs.Words.{shift-is}
 use Rattle.lanes.proofs.whole.signed.Statement.{statement}

@@ -1,3 +1,5 @@
+-- `lanes::whole::word` meets its contract.
+-- Assumes nothing.
 use native.Mathlib.Omega.{arith}
 use borrow.Author.Needs.{needs}
 use Rattle.lanes.proofs.Words.{low-is, high-is}

@@ -2,13 +2,12 @@
 -- Assumes nothing.
 use mathlib.Core.Path.{refl}
 use Prim.Native.Nat.{ℕ}
-use native.Mathlib.Omega.{arith}
 use Rattle.laws.proofs.Range.{values}
 use Rattle.tables.specs.Names.{names, nameOf}
 use Rattle.lanes.specs.declared.Width.the-variants.{B64}
-use Rattle.machine.specs.declared.operations.ConstantOp.the-variants.{Mov}
-use Rattle.machine.specs.declared.forms.Form.the-variants.{Number}
 use Rattle.machine.specs.Forms.{groups, rows, formOf}
+use Rattle.machine.specs.declared.forms.Form.the-variants.{Number}
+use Rattle.machine.specs.declared.operations.ConstantOp.the-variants.{Mov}
 use Rattle.machine.proofs.Stretches.{stretch, above}
 use Rattle.machine.proofs.forms.constant_form.Statement.{statement}
 use Rattle.machine.proofs.forms.constant_form.Tie as tie

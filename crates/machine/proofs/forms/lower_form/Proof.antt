@@ -7,8 +7,8 @@ use Rattle.laws.proofs.Range.{values}
 use Rattle.tables.specs.Names.{names, nameOf}
 use Rattle.lanes.specs.declared.LaneOp.the-variants.{Add, Mul, Mla, Max, Min, Cgt, Cge, Tst}
 use Rattle.lanes.specs.declared.Sign.the-variants.{Signed}
-use Rattle.machine.specs.declared.forms.Form.the-variants.{Lanes, Nothing}
 use Rattle.machine.specs.Forms.{groups, rows, formOf, widthAt}
+use Rattle.machine.specs.declared.forms.Form.the-variants.{Lanes, Nothing}
 use Rattle.machine.proofs.Stretches.{stretch, above}
 use Rattle.machine.proofs.forms.lower_form.Statement.{statement}
 use Rattle.machine.proofs.forms.lower_form.Tie as tie

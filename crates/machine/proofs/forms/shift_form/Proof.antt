@@ -6,9 +6,9 @@ use native.Mathlib.Omega.{arith}
 use Rattle.laws.proofs.Range.{values}
 use Rattle.tables.specs.Names.{names, nameOf}
 use Rattle.lanes.specs.declared.Sign.the-variants.{Unsigned, Signed}
+use Rattle.machine.specs.Forms.{groups, rows, formOf, widthAt}
 use Rattle.machine.specs.declared.forms.Direction.the-variants.{Left, Right}
 use Rattle.machine.specs.declared.forms.Form.the-variants.{Shift, Nothing}
-use Rattle.machine.specs.Forms.{groups, rows, formOf, widthAt}
 use Rattle.machine.proofs.Stretches.{stretch}
 use Rattle.machine.proofs.forms.shift_form.Statement.{statement}
 use Rattle.machine.proofs.forms.shift_form.Tie as tie

@@ -7,9 +7,9 @@ use Rattle.laws.proofs.Range.{values}
 use Rattle.tables.specs.Names.{names, nameOf}
 use Rattle.lanes.specs.declared.LaneOp.the-variants.{Sub, Mls, Max, Min, Cgt, Cge, Ceq}
 use Rattle.lanes.specs.declared.Sign.the-variants.{Unsigned}
-use Rattle.machine.specs.declared.operations.BitOp.the-variants.{Eor}
-use Rattle.machine.specs.declared.forms.Form.the-variants.{Lanes, Bits, Nothing}
 use Rattle.machine.specs.Forms.{groups, rows, formOf, widthAt}
+use Rattle.machine.specs.declared.forms.Form.the-variants.{Lanes, Bits, Nothing}
+use Rattle.machine.specs.declared.operations.BitOp.the-variants.{Eor}
 use Rattle.machine.proofs.Stretches.{stretch, above}
 use Rattle.machine.proofs.forms.upper_form.Statement.{statement}
 use Rattle.machine.proofs.forms.upper_form.Tie as tie

@@ -1,10 +1,10 @@
 -- `machine::forms::width_at` meets its contract.
 -- Assumes nothing.
-use native.Mathlib.Omega.{arith}
-use borrow.Author.Needs.{needs}
-use lib.ListN.{List·getD-eq-default}
 use mathlib.Core.List.{[], _∷_}
 use mathlib.Core.Path.{sym}
+use native.Mathlib.Omega.{arith}
+use lib.ListN.{List·getD-eq-default}
+use borrow.Author.Needs.{needs}
 use Rattle.lanes.specs.declared.Width.the-variants.{B8, B16, B32, B64}
 use Rattle.machine.proofs.forms.width_at.Statement.{statement}
 use Rattle.machine.proofs.forms.width_at.Tie as tie

@@ -1,7 +1,6 @@
 -- `machine::meanings::repeat` meets its contract.
 -- Assumes nothing.
 use native.Mathlib.Omega.{arith}
-use native.Mathlib.Nat.{mod-eq-of-lt}
 use borrow.Author.Needs.{needs}
 use Rattle.machine.specs.Meaning.{repeated}
 use Rattle.machine.proofs.meanings.repeat.Statement.{statement}

@@ -1,7 +1,6 @@
 -- `machine::meanings::shifted` meets its contract.
 -- Assumes nothing.
 use borrow.Author.Needs.{needs}
-use Rattle.laws.proofs.Tests.{tests}
 use borrow.Author.Tests.{le-leb, lt-leb}
 use Rattle.machine.specs.Meaning.{meaningIn}
 use Rattle.machine.proofs.meanings.shifted.Statement.{statement}

@@ -3,12 +3,12 @@
 use mathlib.Core.Path.{_≡_, sym, _∙_}
 use Prim.Native.Nat.{_+_, _-_, _*_, _≤_}
 use native.Mathlib.Omega.{arith}
-use borrow.Author.Needs.{needs}
 use lib.ListN.{getD, drop}
+use borrow.Author.Needs.{needs}
 use Rattle.laws.specs.Answer.{accepted, refused}
 use Rattle.insn.specs.Refusals.{number}
-use Rattle.machine.specs.Step.{stepPair}
 use Rattle.machine.specs.Run.{after, runPairs}
+use Rattle.machine.specs.Step.{stepPair}
 use Rattle.machine.proofs.Runs.{after-none, halts, ended, spent, stops, turned}
 use Rattle.machine.proofs.run.go.Statement.{statement}
 use Rattle.machine.proofs.run.go.Tie as tie

@@ -3,8 +3,8 @@
 use mathlib.Core.Path.{_≡_, refl, sym, ap, subst, _∙_}
 use Prim.Native.Nat.{_*_}
 use native.Mathlib.Omega.{arith}
-use borrow.Author.Needs.{needs}
 use lib.ListN.{drop}
+use borrow.Author.Needs.{needs}
 use Rattle.laws.specs.Answer.{accepted}
 use Rattle.machine.specs.Answers.{ranOf}
 use Rattle.machine.specs.Run.{Run, runPairs, steps}

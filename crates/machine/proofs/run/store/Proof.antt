@@ -3,8 +3,8 @@
 use mathlib.Core.Path.{_≡_}
 use Prim.Native.Nat.{_-_}
 use native.Mathlib.Omega.{arith}
-use borrow.Author.Needs.{needs}
 use lib.ListN.{length, take}
+use borrow.Author.Needs.{needs}
 use Rattle.machine.proofs.Copies.{more, whole}
 use Rattle.machine.proofs.run.store.Statement.{statement}
 use Rattle.machine.proofs.run.store.Tie as tie

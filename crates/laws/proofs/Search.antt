@@ -7,8 +7,8 @@ use Prim.Native.Nat.{ℕ, zero, suc, _+_, _<_, _≤_}
 use native.Mathlib.Omega.{arith}
 use lib.Dec.{T, eqb}
 use borrow.Author.Tests.{eqb-true, eqb-false}
 use Rattle.laws.specs.Choice.{choose}
-use Rattle.tables.specs.Search.{Found, at, none, firstFrom, firstBelow}
+use Rattle.laws.specs.Search.{at, none, firstFrom, firstBelow}
 
 pub never : {A : Type 0} → _≡_ {A = ℕ} 0 1 → A
 never e = absurd (let z : ⊥ = omega arith in z)
