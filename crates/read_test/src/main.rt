@@ -1,59 +1,16 @@
 // Replays the list of readings on standard input, which tools/replay made from the Rust original's answers.
 // Each line has 88 bytes: hw1 hw2 address answer mnemonic mark count, then kind and value of three places.
-ghost use Prim.Native.Nat.{_<_};
 use libc::STDIN_FILENO;
-use libc::STDOUT_FILENO;
+use replay::field;
+use replay::put;
+use replay::put_count;
+use replay::put_refused;
+use replay::record;
 
 // How many lines gave each answer, 0 to 6, and how many were not as the list says.
 struct Tally {
     answers: [u64; 7],
     wrong: u64,
-}
-
-fn put(text: &[u8]) {
-    io::write_all(STDOUT_FILENO, text);
-}
-
-fn put_number(n: u64) {
-    io::print_decimal(STDOUT_FILENO, n);
-}
-
-fn digit(c: u8) -> u64
-    ensures { λ r. ⌜ r < 16 ⌝ }
-{
-    if b'0' <= c && c <= b'9' {
-        return (c % 16) as u64;
-    }
-    ((c % 16 + 9) % 16) as u64
-}
-
-// The n hexadecimal digits from a place on.
-fn field(line: &[u8; 88], at: usize, n: usize) -> u64 {
-    let mut value: u64 = 0;
-    let mut i: usize = 0;
-    while i < 88 {
-        if at <= i && i - at < n {
-            value = value % 0x1000_0000_0000_0000 * 16 + digit(line[i]);
-        }
-        i += 1;
-    }
-    value
-}
-
-// The record that a line says: as the words of the C boundary.
-fn said(line: &[u8; 88]) -> [u64; 10] {
-    [
-        field(line, 22, 4),
-        field(line, 27, 1),
-        field(line, 10, 8),
-        field(line, 29, 1),
-        field(line, 31, 1),
-        field(line, 33, 16),
-        field(line, 50, 1),
-        field(line, 52, 16),
-        field(line, 69, 1),
-        field(line, 71, 16),
-    ]
 }
 
 fn same(a: [u64; 10], b: [u64; 10]) -> bool {
@@ -74,15 +31,15 @@ fn agrees(line: &[u8; 88]) -> bool {
     let address = (field(line, 10, 8) % 0x1_0000_0000) as u32;
     let answer = field(line, 19, 2);
     let before = [77u64; 10];
-    let mut record = before;
-    let code = capi::bodlixo_read(hw1, hw2, address, &mut record);
+    let mut got = before;
+    let code = capi::bodlixo_read(hw1, hw2, address, &mut got);
     if code as u64 != answer {
         return false;
     }
     if answer == 0 {
-        same(record, said(line))
+        same(got, record(line))
     } else {
-        same(record, before)
+        same(got, before)
     }
 }
 
@@ -119,18 +76,6 @@ fn replayed() -> Tally {
         n += 1;
     }
     t
-}
-
-fn put_count(what: &[u8], n: u64) {
-    put(what);
-    put_number(n);
-    put(b"\n");
-}
-
-fn put_refused(k: u64, n: u64) {
-    put(b"refused ");
-    put_number(k);
-    put_count(b": ", n);
 }
 
 fn main() {

@@ -1,0 +1,57 @@
+// Lines of a replayed list, and the counts that a test prints.
+ghost use Prim.Native.Nat.{_<_};
+use libc::STDOUT_FILENO;
+
+pub fn put(text: &[u8]) {
+    io::write_all(STDOUT_FILENO, text);
+}
+
+pub fn put_count(what: &[u8], n: u64) {
+    put(what);
+    io::print_decimal(STDOUT_FILENO, n);
+    put(b"\n");
+}
+
+pub fn put_refused(k: u64, n: u64) {
+    put(b"refused ");
+    io::print_decimal(STDOUT_FILENO, k);
+    put_count(b": ", n);
+}
+
+fn digit(c: u8) -> u64
+    ensures { λ r. ⌜ r < 16 ⌝ }
+{
+    if c < b'a' {
+        return (c % 16) as u64;
+    }
+    ((c % 16 + 9) % 16) as u64
+}
+
+// The number of n hexadecimal digits from a place of the line on; places past its end add nothing.
+pub fn field(line: &[u8], at: usize, n: usize) -> u64 {
+    let mut value: u64 = 0;
+    let mut i: usize = 0;
+    while i < line.len() {
+        if at <= i && i - at < n {
+            value = value % 0x1000_0000_0000_0000 * 16 + digit(line[i]);
+        }
+        i += 1;
+    }
+    value
+}
+
+// The record in a line of 88 bytes, as the words of the C boundary.
+pub fn record(line: &[u8]) -> [u64; 10] {
+    [
+        field(line, 22, 4),
+        field(line, 27, 1),
+        field(line, 10, 8),
+        field(line, 29, 1),
+        field(line, 31, 1),
+        field(line, 33, 16),
+        field(line, 50, 1),
+        field(line, 52, 16),
+        field(line, 69, 1),
+        field(line, 71, 16),
+    ]
+}
