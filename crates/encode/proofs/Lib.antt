@@ -9,4 +9,6 @@ pub mod RoundModimm
 pub mod RoundSame3
 pub mod RoundShift
 pub mod Routing
+pub mod ShiftForth
+pub mod ShiftRows
 pub mod Tests

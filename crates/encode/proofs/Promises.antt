@@ -22,7 +22,8 @@ use Rattle.encode.specs.Promises.{ReadThenWritten, ReadsAs, WrittenThenR
 use Rattle.encode.proofs.Routing.{Route, routed}
 use Rattle.encode.proofs.RoundSame3.{same3-back, same3-forth, vmov-back}
 use Rattle.encode.proofs.RoundDiff.{diff-back, diff-forth}
-use Rattle.encode.proofs.RoundShift.{shift-back, shift-forth, vmovl-back}
+use Rattle.encode.proofs.RoundShift.{shift-back, vmovl-back}
+use Rattle.encode.proofs.ShiftForth.{shift-forth}
 use Rattle.encode.proofs.RoundModimm.{modimm-back, modimm-forth}
 use Rattle.encode.proofs.Tests.{never}
 

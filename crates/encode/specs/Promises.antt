@@ -13,15 +13,13 @@ use Rattle.encode.specs.Forms.{pair}
 use Rattle.encode.specs.Spelling.{Spelling, Held, spelling, spelled, canonical, marked}
 use Rattle.encode.specs.Writing.{writing}
 
--- DEMAND 2
-
--- a pair that is read, written again, is the same pair, whatever the record's mark and address
+-- demand 2, one way: a pair that is read, written again, is the same pair, whatever the record's mark and address
 abbrev pub ReadThenWritten : Type 0
 ReadThenWritten =
     (hw1 hw2 address : ℕ) (i : Insn) (mark : Mark) (other : ℕ) → hw1 < 65536 → hw2 < 65536
     → reading hw1 hw2 address ≡ accepted i → writing (marked i mark other) ≡ accepted (pair hw1 hw2)
 
--- a record that is written reads back in its canonical spelling, at any address
+-- and the other: a record that is written reads back in its canonical spelling, at any address
 pub record ReadsAs (hw1 hw2 address : ℕ) (s : Spelling) : Type 0 where
   pub first-halfword : hw1 < 65536
   pub second-halfword : hw2 < 65536

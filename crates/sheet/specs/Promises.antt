@@ -12,7 +12,7 @@ use Rattle.sheet.specs.Demand3.{Translates, Demand3}
 use Rattle.sheet.specs.Evaluation.{evaluationOf, fileLeft}
 use Rattle.sheet.specs.Translation.{pairs, refused, refusedAt, translationOf, writtenOf}
 
--- DEMAND 3: for every list of bytes, every output, every file of 64-bit numbers and every budget
+-- demand 3, for every list of bytes, every output, every file of 64-bit numbers and every budget
 abbrev pub SheetsHold : Type 0
 SheetsHold =
     (bytes out : List ℕ) (file : File) (budget : ℕ) → ((k : ℕ) → getD file k 0 < 2 ^ 64)
@@ -24,7 +24,7 @@ Exactly =
     (bytes : List ℕ) (room n : ℕ)
     → (translationOf bytes room ≡ pairs n → Translates bytes room n) × (Translates bytes room n → translationOf bytes room ≡ pairs n)
 
--- DEMAND 1: a refused translation leaves the output as it was
+-- demand 1: a refused translation leaves the output as it was
 abbrev pub OutputKept : Type 0
 OutputKept =
     (bytes out : List ℕ) (r : ℕ) → translationOf bytes (length out) ≡ refused r → writtenOf bytes out ≡ out
