@@ -52,7 +52,7 @@ values s w a b c =
     ∷ bitAnd a b  -- 5
     ∷ bitOr a b  -- 6
     ∷ bitXor a b  -- 7
-    ∷ (2 ^ 128 - 1 - a)  -- 8
+    ∷ inverted a  -- 8
     ∷ eachLane w (λ x y. pos x *ℤ pos (2 ^ s .amount)) a a  -- 9
     ∷ eachLane w (λ x y. shrZ (lane x) (2 ^ s .amount)) a a  -- 10
     ∷ eachLane w (λ x y. greater (lane x) (lane y)) a b  -- 11
