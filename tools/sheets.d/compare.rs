@@ -1,0 +1,255 @@
+//! Sheets translated and run on both sides, and everything that comes back compared.
+
+use crate::boundary;
+use crate::chance::{sheet_of, Chance};
+use crate::counts::Counts;
+use crate::model::{self, uses, Step, LONGEST, STEP};
+use crate::pairs::{code_of, Pair};
+use crate::report::Report;
+use std::process::ExitCode;
+
+/// Halfwords after the output that nobody may touch.
+const BEYOND: usize = 4;
+
+/// Pairs that a run refuses, with the number.
+const REFUSED: [([u16; 2], u32); 12] = [
+    ([0xefb0, 0x0000], 1),
+    ([0x0000, 0x0000], 1),
+    ([0xef90, 0x0e10], 2),
+    ([0xef80, 0x0f30], 3),
+    ([0xef80, 0x0210], 4),
+    ([0xef00, 0x0b50], 5),
+    ([0xef80, 0x1000], 6),
+    ([0xef01, 0x0402], 10),
+    ([0xef88, 0x0a11], 10),
+    ([0xef80, 0x0000], 10),
+    ([0xef00, 0x0b10], 10),
+    ([0xefa0, 0x0e10], 10),
+];
+
+#[derive(Default)]
+struct Compared {
+    report: Report,
+    counts: Counts,
+}
+
+pub fn compare(count: usize) -> ExitCode {
+    let mut all = Compared::default();
+    let mut chance = Chance(1);
+    for _ in 0..count {
+        all.sheet(&mut chance);
+    }
+    println!("sheets {count}");
+    all.counts.print();
+    println!("{} disagreements", all.report.disagreements);
+    all.report.status()
+}
+
+impl Compared {
+    /// One sheet of one of the sorts: valid, a byte damaged, the length damaged, or any bytes.
+    fn sheet(&mut self, chance: &mut Chance) {
+        let count = chance.count();
+        let steps = chance.steps(count);
+        let mut sheet = sheet_of(&steps);
+        match chance.below(20) {
+            0..=3 if !steps.is_empty() => {
+                let (at, byte) = chance.damage(&mut sheet);
+                if let Err((13, _)) = model::translation(&sheet, usize::MAX) {
+                    self.counts.add("refused for the byte", byte as u64);
+                    self.counts.saw("kinds and bytes refused", &[steps[at].kind, byte as u8]);
+                }
+            }
+            4 if !steps.is_empty() => {
+                chance.damage(&mut sheet);
+                chance.damage(&mut sheet);
+                self.counts.add("sheets with two bytes damaged", 2);
+            }
+            5 => wrong_length(chance, &mut sheet),
+            6 => sheet.iter_mut().for_each(|byte| *byte = chance.word() as u8 & 15),
+            _ => {}
+        }
+        self.translated(chance, &sheet);
+    }
+
+    /// A sheet translated into an output of some length; then its runs.
+    fn translated(&mut self, chance: &mut Chance, sheet: &[u8]) {
+        let need = match model::translation(sheet, usize::MAX) {
+            Ok(pairs) => 2 * pairs.len(),
+            Err(_) => chance.below(64),
+        };
+        let room = room(chance, need);
+        let mut out: Vec<u16> = (0..room + BEYOND).map(|_| chance.word() as u16).collect();
+        let mut due_out = out.clone();
+        let due = model::translation(sheet, room);
+        let answer = match &due {
+            Ok(pairs) => (0, pairs.len() as u64),
+            Err(refusal) => *refusal,
+        };
+        if let Ok(pairs) = &due {
+            due_out[..2 * pairs.len()].copy_from_slice(&code_of(pairs));
+        }
+        let ours = boundary::translate(sheet, &mut out[..room]);
+        self.report.expect(ours, answer, || format!("translation of {sheet:x?} into {room}"));
+        self.report.expect(&out, &due_out, || format!("output of {sheet:x?} in {room}"));
+        self.counts.add("translation answers", answer.0.into());
+        if answer.0 == 14 {
+            self.counts.add("halfwords missing at 14 (9: more)", (need - room).min(9) as u64);
+        }
+        if let Ok(pairs) = due {
+            self.counts.add("halfwords left over (9: more)", (room - need).min(9) as u64);
+            self.covered(&model::steps_of(sheet));
+            self.runs(chance, &model::steps_of(sheet), &pairs, &out[..2 * pairs.len()]);
+        }
+    }
+
+    /// The steps of a translated sheet, counted.
+    fn covered(&mut self, steps: &[Step]) {
+        let size = [0, 1, 8, 40, 255, 256].into_iter().find(|n| steps.len() <= *n).expect("at most 256");
+        self.counts.add("translated sheets, steps up to", size as u64);
+        for step in steps {
+            let Step { kind, target, a, b, c, width, amount, sign, low, high } = *step;
+            self.counts.add("steps of kind", kind.into());
+            self.counts.saw("kinds with width and sign", &[kind, width, sign]);
+            if uses(kind, 'l') || uses(kind, 'r') {
+                self.counts.saw("shifts with width, sign and amount", &[kind, width, sign, amount]);
+            }
+            if kind == 0 {
+                let pairs = |half| model::translation(&constant(half), usize::MAX).map_or(0, |p| p.len() - 1);
+                self.counts.add("constant halves of pairs", pairs(low) as u64);
+                self.counts.add("constant halves of pairs", pairs(high) as u64);
+            }
+            let rows = [('a', a), ('b', b), ('c', c)];
+            let used: Vec<_> = rows.iter().filter(|(letter, _)| uses(kind, *letter)).map(|r| r.1).collect();
+            let rows = [vec![target], used].concat();
+            let first = |row: &u8| rows.iter().position(|other| other == row).expect("itself") as u8;
+            let form = [vec![kind], rows.iter().map(first).collect()].concat();
+            self.counts.saw("kinds with agreements among their rows", &form);
+        }
+    }
+
+    /// One run compared; the file that ours leaves.
+    fn run(
+        &mut self,
+        code: &[u16],
+        start: u64,
+        file: &[u64; 32],
+        budget: u64,
+        due: (u32, u64, [u64; 32]),
+    ) -> [u64; 32] {
+        let mut left = *file;
+        let (answer, executed) = boundary::run(code, start, &mut left, budget);
+        let case = || format!("run of {code:x?} from {start} with {budget} on {file:x?}");
+        self.report.expect((answer, executed, left), due, case);
+        self.counts.add("run answers", due.0.into());
+        left
+    }
+
+    /// The runs of a translation: whole, cut short and gone on with, and some that are refused.
+    fn runs(&mut self, chance: &mut Chance, steps: &[Step], pairs: &[Pair], code: &[u16]) {
+        let n = pairs.len() as u64;
+        let file = chance.file();
+        let budget = chance.one(&[n, n, n + 1, u64::MAX, n + 1000]);
+        let left = self.run(code, 0, &file, budget, model::run(pairs, 0, &file, budget));
+        let rows = model::meaning(steps, model::rows_of(&file));
+        self.report.expect(model::rows_of(&left), rows, || format!("rows of {steps:x?} on {file:x?}"));
+        self.counts.add("whole runs, budget beyond the need (9: more)", (budget - n).min(9));
+        if n > 0 {
+            let any = chance.below(pairs.len()) as u64;
+            let budget = chance.one(&[0, 1.min(n - 1), n - 1, any, any]);
+            let middle = self.run(code, 0, &file, budget, model::run(pairs, 0, &file, budget));
+            let rest = chance.one(&[n - budget, n, u64::MAX]);
+            let end = self.run(code, budget, &middle, rest, (0, n - budget, left));
+            self.report.expect(model::rows_of(&end), rows, || format!("rows gone on to, {steps:x?}"));
+            self.counts.add("runs gone on with, budget below the need by (9: more)", (n - budget).min(9));
+        }
+        match chance.below(8) {
+            0 => self.started(chance, pairs, code, &file),
+            1 => self.odd(chance, code, &file),
+            2 => self.wrong_file(chance, code, n),
+            3 => self.refused_pair(chance, pairs, code, &file),
+            _ => {}
+        }
+    }
+
+    /// A run from any start, also past the end.
+    fn started(&mut self, chance: &mut Chance, pairs: &[Pair], code: &[u16], file: &[u64; 32]) {
+        let n = pairs.len() as u64;
+        let any = chance.below(pairs.len() + 1) as u64;
+        let start = chance.one(&[any, any, any, n, n + 1, 2 * n + 1, u64::MAX, 1 << 63]);
+        let budget = chance.one(&[0, n.saturating_sub(start), n, u64::MAX]);
+        self.run(code, start, file, budget, model::run(pairs, start, file, budget));
+        self.counts.add("starts (0 at 0, 1 inside, 2 the end, 3 past it)", match start {
+            0 => 0,
+            _ if start < n => 1,
+            _ if start == n => 2,
+            _ => 3,
+        });
+    }
+
+    /// An odd halfword count.
+    fn odd(&mut self, chance: &mut Chance, code: &[u16], file: &[u64; 32]) {
+        let mut code = code.to_vec();
+        if code.is_empty() || chance.once_in(2) {
+            code.push(0xef22);
+        } else {
+            code.pop();
+        }
+        let (start, budget) = (chance.one(&[0, 0, 1, u64::MAX]), chance.one(&[0, 1, u64::MAX]));
+        self.run(&code, start, file, budget, (11, 0, *file));
+        self.counts.add("runs of halfwords modulo 2", 1);
+    }
+
+    /// A file of another length, left as it was.
+    fn wrong_file(&mut self, chance: &mut Chance, code: &[u16], n: u64) {
+        let words = chance.one(&[0, 1, 31, 33, 64]);
+        let file: Vec<u64> = (0..words).map(|_| chance.word()).collect();
+        let mut left = file.clone();
+        let ours = boundary::run(code, 0, &mut left, chance.one(&[0, n, u64::MAX]));
+        self.report.expect((ours, left), ((11, 0), file), || format!("a file of {words}"));
+        self.counts.add("run answers", 11);
+        self.counts.add("runs with a file of", words);
+    }
+
+    /// A pair that is refused, put in anywhere; a used-up budget comes before it.
+    fn refused_pair(&mut self, chance: &mut Chance, pairs: &[Pair], code: &[u16], file: &[u64; 32]) {
+        let (pair, number) = chance.one(&REFUSED);
+        let at = chance.below(pairs.len() + 1);
+        let code = [&code[..2 * at], &pair, &code[2 * at..]].concat();
+        let budget = chance.one(&[0, at as u64, at as u64 + 1, u64::MAX]);
+        let (_, executed, left) = model::run(&pairs[..at], 0, file, budget);
+        let answer = if budget > at as u64 { number } else { 15 };
+        self.run(&code, 0, file, budget, (answer, executed, left));
+    }
+}
+
+/// The sheet cut, lengthened, or made longer than a sheet may be.
+fn wrong_length(chance: &mut Chance, sheet: &mut Vec<u8>) {
+    match chance.below(4) {
+        0 => sheet.truncate(sheet.len().saturating_sub(1 + chance.below(STEP - 1))),
+        1 => sheet.resize(sheet.len() + 1 + chance.below(STEP - 1), 0),
+        2 => sheet.resize(LONGEST + 1 + chance.below(100), 0),
+        _ => sheet.resize(LONGEST + STEP * (1 + chance.below(3)), 0),
+    }
+}
+
+/// An output's length around the need.
+fn room(chance: &mut Chance, need: usize) -> usize {
+    let more = chance.below(100);
+    let less = chance.below(need + 1);
+    match chance.below(16) {
+        0..=4 => need,
+        5 | 6 => need + 1,
+        7 => need + 2,
+        8 | 9 => need + more,
+        10 => need + 10240,
+        11 | 12 => need.saturating_sub(1),
+        13 => need.saturating_sub(2),
+        14 => less,
+        _ => 0,
+    }
+}
+
+/// A sheet of one constant, whose high half is one pair.
+fn constant(low: u64) -> Vec<u8> {
+    sheet_of(&[Step { low, ..Step::default() }])
+}

@@ -1,0 +1,69 @@
+//! Our translations run by an ARM emulator, held against the model's rows and against our run.
+
+use crate::boundary;
+use crate::chance::{sheet_of, Chance};
+use crate::model;
+use crate::report::Report;
+use std::io::Write;
+use std::process::{Command, ExitCode, Stdio};
+use std::thread;
+
+struct Program {
+    steps: Vec<model::Step>,
+    code: Vec<u16>,
+    file: [u64; 32],
+}
+
+/// A sheet of ours, translated; each fiftieth has 256 steps.
+fn program(chance: &mut Chance, index: usize) -> Program {
+    let count = if index % 50 == 0 { 256 } else { chance.count().max(1) };
+    let steps = chance.steps(count);
+    let mut code = vec![0; 40 * count];
+    let (answer, pairs) = boundary::translate(&sheet_of(&steps), &mut code);
+    assert_eq!(answer, 0, "a sheet that keeps the rules is translated");
+    code.truncate(2 * pairs as usize);
+    Program { steps, code, file: chance.file() }
+}
+
+/// What the emulator leaves of each file.
+fn emulated(harness: &str, programs: &[Program]) -> Vec<[u64; 32]> {
+    let mut given = Vec::new();
+    for program in programs {
+        given.extend((program.code.len() as u32 / 2).to_le_bytes());
+        given.extend(program.file.iter().flat_map(|word| word.to_le_bytes()));
+        given.extend(program.code.iter().flat_map(|half| half.to_le_bytes()));
+    }
+    let mut command = Command::new("qemu-arm");
+    let piped = command.arg(harness).stdin(Stdio::piped()).stdout(Stdio::piped());
+    let mut child = piped.spawn().expect("qemu-arm runs");
+    let mut into = child.stdin.take().expect("a pipe");
+    let writer = thread::spawn(move || into.write_all(&given).expect("the programs are read"));
+    let output = child.wait_with_output().expect("qemu-arm ends");
+    writer.join().expect("written");
+    let words: Vec<u64> =
+        output.stdout.chunks(8).map(|b| u64::from_le_bytes(b.try_into().expect("8 bytes"))).collect();
+    words.chunks(32).map(|file| file.try_into().expect("32 words")).collect()
+}
+
+pub fn emulate(harness: &str, count: usize) -> ExitCode {
+    let mut chance = Chance(2);
+    let programs: Vec<_> = (0..count).map(|k| program(&mut chance, k)).collect();
+    let left = emulated(harness, &programs);
+    let mut report = Report::default();
+    report.expect(left.len(), count, || "files that the emulator left".to_owned());
+    for (program, left) in programs.iter().zip(&left) {
+        let rows = model::meaning(&program.steps, model::rows_of(&program.file));
+        report.expect(model::rows_of(left), rows, || format!("emulated rows of {:x?}", program.steps));
+        let mut ours = program.file;
+        let ended = boundary::run(&program.code, 0, &mut ours, u64::MAX);
+        report.expect(ended, (0, program.code.len() as u64 / 2), || format!("{:x?}", program.steps));
+        report.expect(ours, *left, || format!("our file of {:x?}", program.steps));
+    }
+    let steps: usize = programs.iter().map(|program| program.steps.len()).sum();
+    let pairs: usize = programs.iter().map(|program| program.code.len() / 2).sum();
+    println!(
+        "emulated {count} programs, {steps} steps, {pairs} pairs: {} disagreements",
+        report.disagreements
+    );
+    report.status()
+}

@@ -1,0 +1,38 @@
+/* Runs lists of Thumb instruction pairs on D0 to D31, for tools/sheets.
+   Input: for each list the number of its pairs (32 bits), 32 doublewords and the pairs, little-endian.
+   Output: the 32 doublewords after it. */
+#include <stdint.h>
+#include <stdio.h>
+#include <string.h>
+#include <sys/mman.h>
+
+enum { ROOM = 1 << 15 };
+
+/* vpush {d8-d15}; vldmia r0!, {d0-d15}; vldmia r0, {d16-d31} */
+static const uint16_t before[] = {0xed2d, 0x8b10, 0xecb0, 0x0b20, 0xecd0, 0x0b20};
+/* vstmia r1!, {d0-d15}; vstmia r1, {d16-d31}; vpop {d8-d15}; bx lr */
+static const uint16_t after[] = {0xeca1, 0x0b20, 0xecc1, 0x0b20, 0xecbd, 0x8b10, 0x4770};
+
+int main(void) {
+    char *code = mmap(0, ROOM, PROT_READ | PROT_WRITE | PROT_EXEC, MAP_PRIVATE | MAP_ANONYMOUS, -1, 0);
+    char *pairs = code + sizeof before;
+    uint32_t count;
+    if (code == MAP_FAILED) {
+        return 1;
+    }
+    memcpy(code, before, sizeof before);
+    while (fread(&count, sizeof count, 1, stdin) == 1) {
+        uint64_t in[32], out[32];
+        if (sizeof before + 4 * (size_t)count + sizeof after > ROOM) {
+            return 1;
+        }
+        if (fread(in, sizeof in, 1, stdin) != 1 || fread(pairs, 4, count, stdin) != count) {
+            return 1;
+        }
+        memcpy(pairs + 4 * count, after, sizeof after);
+        __builtin___clear_cache(code, code + ROOM);
+        ((void (*)(const uint64_t *, uint64_t *))((uintptr_t)code | 1))(in, out);
+        fwrite(out, sizeof out, 1, stdout);
+    }
+    return 0;
+}

@@ -1,0 +1,203 @@
+//! The sample that crates/sheet_test replays: the document's edges, then random sheets. Two lines a case; the model
+//! gives the answers.
+
+use crate::chance::{sheet_of, Chance};
+use crate::model::{self, uses, Step, STEP};
+use crate::pairs::code_of;
+use std::process::ExitCode;
+
+/// What every halfword of the output is before the translation.
+const BEFORE: u16 = 0x5555;
+
+/// Random cases after the edges.
+const RANDOM: usize = 40;
+
+/// A kind, a byte of its step and a value that breaks a rule.
+const WRONG: [(u8, usize, u8); 22] = [
+    (2, 5, 4), (3, 5, 4), (9, 5, 4), (10, 5, 4), (4, 5, 3), (11, 5, 3), (12, 5, 3), (13, 5, 3),
+    (10, 7, 2), (11, 7, 2), (12, 7, 2), (13, 7, 2), (2, 7, 1), (3, 7, 1), (9, 7, 1), (2, 6, 1), (11, 6, 1),
+    (0, 0, 255), (5, 1, 255), (5, 3, 14), (7, 4, 1), (1, 3, 1),
+];
+
+/// How a case's sheet is handed in; what is left out is as much as is needed.
+#[derive(Clone, Copy, Default)]
+struct How {
+    start: u64,
+    file: Option<usize>,
+    room: Option<usize>,
+    budget: Option<u64>,
+}
+
+struct Sample {
+    chance: Chance,
+}
+
+pub fn sample() -> ExitCode {
+    let mut sample = Sample { chance: Chance(3) };
+    sample.kinds();
+    sample.lengths();
+    sample.broken();
+    sample.short();
+    sample.endings();
+    for _ in 0..RANDOM {
+        let count = 1 + sample.chance.below(6);
+        let steps = sample.chance.steps(count);
+        sample.case(&sheet_of(&steps), How::default());
+    }
+    ExitCode::SUCCESS
+}
+
+/// The sum by which the replay holds the whole output.
+fn check(out: &[u16]) -> u64 {
+    out.iter().fold(0, |sum, half| sum % (1 << 48) * 257 + u64::from(*half))
+}
+
+fn hexadecimal(file: &[u64; 32]) -> String {
+    file.iter().map(|word| format!("{word:016x}")).collect()
+}
+
+impl Sample {
+    /// The two lines of a case: what is handed in and what comes back, then the sheet.
+    fn case(&mut self, sheet: &[u8], how: How) -> [u64; 32] {
+        let file = self.chance.file();
+        self.case_on(sheet, how, file)
+    }
+
+    fn case_on(&mut self, sheet: &[u8], how: How, file: [u64; 32]) -> [u64; 32] {
+        let pairs = model::translation(sheet, usize::MAX).map_or(0, |pairs| pairs.len());
+        let room = how.room.unwrap_or(2 * pairs);
+        let budget = how.budget.unwrap_or(pairs as u64);
+        let words = how.file.unwrap_or(32);
+        let mut out = vec![BEFORE; room];
+        let (answer, index, executed, left) = match model::translation(sheet, room) {
+            Err((answer, index)) => (answer, index, 0, file),
+            Ok(pairs) => {
+                out[..2 * pairs.len()].copy_from_slice(&code_of(&pairs));
+                let ran = model::run(&pairs, how.start, &file, budget);
+                let (answer, executed, left) = if words == 32 { ran } else { (11, 0, file) };
+                (answer, 0, executed, left)
+            }
+        };
+        println!(
+            "{:04x} {room:04x} {:016x} {words:04x} {budget:016x} {answer:02x} {index:04x} {executed:04x} {:016x} {} {}",
+            sheet.len(),
+            how.start,
+            check(&out),
+            hexadecimal(&file),
+            hexadecimal(&left)
+        );
+        println!("{}", sheet.iter().map(|byte| format!("{byte:02x}")).collect::<String>());
+        left
+    }
+
+    /// Each kind by itself: all widths and signs, both ends of the amount, all agreements of its rows.
+    fn kinds(&mut self) {
+        for kind in 0..15 {
+            for _ in 0..2 {
+                let steps: Vec<_> = (0..8).map(|_| self.chance.step(kind)).collect();
+                self.case(&sheet_of(&steps), How::default());
+            }
+        }
+        for kind in [9, 10] {
+            for (width, sign) in (0..4).flat_map(|width| (0..2).map(move |sign| (width, sign))) {
+                let sign = if uses(kind, 's') { sign } else { 0 };
+                let step = Step { width, sign, ..self.chance.step(kind) };
+                let most = step.bits() - u8::from(kind == 9);
+                let amounts = [0, 1, most - 1, most, most + 1];
+                let steps = amounts.map(|amount| Step { amount, ..step });
+                self.case(&sheet_of(&steps[..4]), How::default());
+                self.case(&sheet_of(&steps), How::default());
+            }
+        }
+        let step = self.chance.step(6);
+        for (target, a, b) in [(0, 1, 1), (1, 1, 1), (13, 0, 0), (0, 0, 1), (1, 0, 1)] {
+            self.case(&sheet_of(&[Step { target, a, b, ..step }]), How::default());
+        }
+        for (target, a, b, c) in [(0, 0, 1, 2), (1, 0, 1, 2), (2, 0, 1, 2), (3, 3, 3, 3), (4, 5, 5, 4)] {
+            let step = Step { kind: 14, target, a, b, c, ..Step::default() };
+            self.case(&sheet_of(&[step]), How::default());
+        }
+        for value in [0, 1, 1 << 8, 1 << 31, u64::MAX, 1 << 63, 0xffff_ffff, 0x0102_0304_0506_0708] {
+            let step = Step { target: 13, low: value, high: value.rotate_left(17), ..Step::default() };
+            self.case(&sheet_of(&[step]), How::default());
+        }
+    }
+
+    /// No step, 256 steps and 257; lengths that are no multiple of 24.
+    fn lengths(&mut self) {
+        for (room, budget) in [(0, 0), (0, u64::MAX), (5, 1)] {
+            let how = How { room: Some(room), budget: Some(budget), ..How::default() };
+            self.case(&[], how);
+        }
+        let longest = Step { low: 0x1122_3344_5566_7788, high: 0x99aa_bbcc_ddee_ff11, ..Step::default() };
+        let sheet = sheet_of(&[longest; 256]);
+        self.case(&sheet, How::default());
+        self.case(&sheet, How { room: Some(10239), ..How::default() });
+        let steps = self.chance.steps(257);
+        let sheet = sheet_of(&steps);
+        self.case(&sheet[..256 * STEP], How::default());
+        let how = How { room: Some(10300), ..How::default() };
+        for length in [256 * STEP + 1, 257 * STEP, 1, STEP - 1, STEP + 1, 3 * STEP + 12] {
+            self.case(&sheet[..length], how);
+        }
+    }
+
+    /// One byte of the second step that breaks a rule: every place, used and unused; the last step and those before.
+    fn broken(&mut self) {
+        let how = How { room: Some(60), budget: Some(9), ..How::default() };
+        self.damaged(14, 0, 15, how);
+        (1..5).for_each(|row| self.damaged(14, row, 14, how));
+        (5..24).for_each(|unused| self.damaged(14, unused, 1, how));
+        (2..8).for_each(|unused| self.damaged(0, unused, 1, how));
+        for (kind, byte, wrong) in WRONG {
+            self.damaged(kind, byte, wrong, how);
+        }
+        let mut sheet = sheet_of(&self.chance.steps(256));
+        for step in [255, 100, 3] {
+            sheet[STEP * step] = 15;
+            self.case(&sheet, how);
+        }
+    }
+
+    fn damaged(&mut self, kind: u8, byte: usize, wrong: u8, how: How) {
+        let mut sheet = sheet_of(&[self.chance.step(kind), self.chance.step(kind)]);
+        sheet[STEP + byte] = wrong;
+        self.case(&sheet, how);
+    }
+
+    /// Outputs a halfword short and a halfword long; 13 before 14.
+    fn short(&mut self) {
+        for kind in 0..15 {
+            let mut sheet = sheet_of(&[self.chance.step(kind)]);
+            let need = model::translation(&sheet, usize::MAX).map_or(0, |pairs| 2 * pairs.len());
+            for room in [need - 1, need + 1] {
+                self.case(&sheet, How { room: Some(room), ..How::default() });
+            }
+            sheet[1] = 14;
+            self.case(&sheet, How { room: Some(0), ..How::default() });
+        }
+    }
+
+    /// Budgets around the need, going on after 15, other starts and another file.
+    fn endings(&mut self) {
+        for _ in 0..6 {
+            let sheet = sheet_of(&self.chance.steps(4));
+            let n = model::translation(&sheet, usize::MAX).map_or(0, |pairs| pairs.len()) as u64;
+            let room = Some(2 * n as usize + 3);
+            let how = How { room, ..How::default() };
+            for budget in [0, n / 2, n - 1] {
+                let left = self.case(&sheet, How { budget: Some(budget), ..how });
+                self.case_on(&sheet, How { start: budget, budget: Some(n - budget), ..how }, left);
+            }
+            self.case(&sheet, How { budget: Some(n + 1), ..how });
+            self.case(&sheet, How { budget: Some(u64::MAX), ..how });
+            for start in [n, n + 1, u64::MAX] {
+                self.case(&sheet, How { start, ..how });
+            }
+        }
+        let sheet = sheet_of(&self.chance.steps(2));
+        for words in [0, 1, 31] {
+            self.case(&sheet, How { file: Some(words), budget: Some(0), ..How::default() });
+        }
+    }
+}

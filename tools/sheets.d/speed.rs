@@ -1,0 +1,100 @@
+//! How fast sheets are translated and their pairs run, by the number of steps; beside it the model, which is plain
+//! Rust and whose run has the pairs read already. All measurements take turns.
+
+use crate::boundary;
+use crate::chance::{sheet_of, Chance};
+use crate::model::{self, Step};
+use crate::pairs::{code_of, Pair};
+use std::hint::black_box;
+use std::process::ExitCode;
+use std::time::Instant;
+
+const ROUNDS: usize = 21;
+const SIZES: [usize; 3] = [16, 64, 256];
+
+/// Steps handled in one measurement.
+const STEPS: usize = 40_960;
+
+struct Sheet {
+    what: &'static str,
+    steps: usize,
+    sheet: Vec<u8>,
+    pairs: Vec<Pair>,
+    code: Vec<u16>,
+}
+
+impl Sheet {
+    fn new(what: &'static str, steps: &[Step]) -> Sheet {
+        let sheet = sheet_of(steps);
+        let pairs = model::translation(&sheet, usize::MAX).expect("a sheet that keeps the rules");
+        let code = code_of(&pairs);
+        Sheet { what, steps: steps.len(), sheet, pairs, code }
+    }
+
+    /// One turn: nanoseconds a step and a pair, ours and the model's.
+    fn turn(&self) -> [f64; 4] {
+        let times = STEPS / self.steps;
+        let mut out = vec![0; self.code.len()];
+        let mut file = [0x0123_4567_89ab_cdef; 32];
+        let translation = timed(times, || {
+            black_box(boundary::translate(black_box(&self.sheet), &mut out));
+        });
+        let theirs = timed(times, || {
+            let pairs = model::translation(black_box(&self.sheet), self.code.len());
+            black_box(pairs.map(|pairs| code_of(&pairs)).is_ok());
+        });
+        let run = timed(times, || {
+            black_box(boundary::run(black_box(&self.code), 0, &mut file, u64::MAX));
+        });
+        let interpreted = timed(times, || {
+            file = black_box(model::run(black_box(&self.pairs), 0, &file, u64::MAX)).2;
+        });
+        let (steps, pairs) = (self.steps as f64, self.pairs.len() as f64);
+        [translation / steps, theirs / steps, run / pairs, interpreted / pairs]
+    }
+}
+
+/// Nanoseconds a call.
+fn timed(times: usize, mut work: impl FnMut()) -> f64 {
+    let start = Instant::now();
+    (0..times).for_each(|_| work());
+    start.elapsed().as_nanos() as f64 / times as f64
+}
+
+pub fn speed() -> ExitCode {
+    let mut chance = Chance(4);
+    let mixed = chance.steps(256);
+    let constants: Vec<_> = (0..256).map(|_| chance.step(0)).collect();
+    let kinds = [("mixed kinds", mixed), ("constants", constants)];
+    let sheets: Vec<_> = kinds
+        .iter()
+        .flat_map(|(what, steps)| SIZES.map(|size| Sheet::new(what, &steps[..size])))
+        .collect();
+    let mut turns = vec![Vec::new(); sheets.len()];
+    for _ in 0..=ROUNDS {
+        for (sheet, turns) in sheets.iter().zip(&mut turns) {
+            turns.push(sheet.turn());
+        }
+    }
+    println!("Median of {ROUNDS} rounds in turns.");
+    println!("| sheet | steps | pairs | ns a step translated | model | steps a second | ns a pair run | model | pairs a second |");
+    println!("|---|---|---|---|---|---|---|---|---|");
+    for (sheet, turns) in sheets.iter().zip(&turns) {
+        let [step, step_model, pair, pair_model] = [0, 1, 2, 3].map(|k| median(&turns[1..], k));
+        println!(
+            "| {} | {} | {} | {step:.1} | {step_model:.1} | {:.1} million | {pair:.1} | {pair_model:.1} | {:.1} million |",
+            sheet.what,
+            sheet.steps,
+            sheet.pairs.len(),
+            1e3 / step,
+            1e3 / pair
+        );
+    }
+    ExitCode::SUCCESS
+}
+
+fn median(turns: &[[f64; 4]], k: usize) -> f64 {
+    let mut times: Vec<_> = turns.iter().map(|turn| turn[k]).collect();
+    times.sort_by(f64::total_cmp);
+    times[times.len() / 2]
+}
