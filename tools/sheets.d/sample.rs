@@ -6,8 +6,9 @@ use crate::model::{self, uses, Step, STEP};
 use crate::pairs::code_of;
 use std::process::ExitCode;
 
-/// What every halfword of the output is before the translation.
+/// What every halfword of the replay's output is before the translation, and how many it has.
 const BEFORE: u16 = 0x5555;
+const HALFWORDS: usize = 10304;
 
 /// Random cases after the edges.
 const RANDOM: usize = 40;
@@ -68,7 +69,7 @@ impl Sample {
         let room = how.room.unwrap_or(2 * pairs);
         let budget = how.budget.unwrap_or(pairs as u64);
         let words = how.file.unwrap_or(32);
-        let mut out = vec![BEFORE; room];
+        let mut out = [BEFORE; HALFWORDS];
         let (answer, index, executed, left) = match model::translation(sheet, room) {
             Err((answer, index)) => (answer, index, 0, file),
             Ok(pairs) => {
