@@ -2,13 +2,7 @@
 
 #[link(name = "capi", kind = "static")]
 extern "C" {
-    fn bodlixo_translate(
-        sheet: *const u8,
-        len: usize,
-        out: *mut u16,
-        out_len: usize,
-        at: *mut u64,
-    ) -> u32;
+    fn bodlixo_translate(sheet: *const u8, len: usize, out: *mut u16, out_len: usize, at: *mut u64) -> u32;
     fn bodlixo_run(
         code: *const u16,
         len: usize,
@@ -27,8 +21,7 @@ const UNSET: u64 = 0x5555_5555_5555_5555;
 pub fn translate(sheet: &[u8], out: &mut [u16]) -> (u32, u64) {
     let mut at = UNSET;
     let (bytes, halfwords) = (sheet.len(), out.len());
-    let code =
-        unsafe { bodlixo_translate(sheet.as_ptr(), bytes, out.as_mut_ptr(), halfwords, &mut at) };
+    let code = unsafe { bodlixo_translate(sheet.as_ptr(), bytes, out.as_mut_ptr(), halfwords, &mut at) };
     (code, at)
 }
 

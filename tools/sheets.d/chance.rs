@@ -117,15 +117,23 @@ impl Chance {
         }
     }
 
-    /// A byte of the sheet replaced, often by a number next to some limit: which step's, and which.
+    /// A byte of the sheet replaced: which step's, and which. It is often the first that is out of range.
     pub fn damage(&mut self, sheet: &mut [u8]) -> (usize, usize) {
-        const NEAR: [u8; 20] =
-            [0, 1, 2, 3, 4, 5, 8, 9, 13, 14, 15, 16, 17, 32, 33, 63, 64, 65, 128, 255];
-        let step = self.below(sheet.len() / STEP);
+        let at = self.below(sheet.len() / STEP);
         let byte = if self.once_in(3) { self.below(STEP) } else { self.below(8) };
+        let step = Step::of(&sheet[STEP * at..]);
+        let past = match byte {
+            0 => 15,
+            1..=4 if uses(step.kind, ['a', 'a', 'b', 'c'][byte - 1]) => 14,
+            5 => self.one(&[1, 3, 4]),
+            6 => self.one(&[1, 8 << (step.width % 4), (8 << (step.width % 4)) + 1]),
+            7 => self.one(&[1, 2]),
+            _ => 1,
+        };
         let any = self.word() as u8;
-        sheet[STEP * step + byte] = if self.once_in(4) { any } else { self.one(&NEAR) };
-        (step, byte)
+        let near = self.below(66) as u8;
+        sheet[STEP * at + byte] = self.one(&[past, past, near, any]);
+        (at, byte)
     }
 }
 

@@ -46,29 +46,36 @@ pub fn compare(count: usize) -> ExitCode {
 }
 
 impl Compared {
-    /// One sheet of one of the sorts: valid, a byte damaged, the length damaged, or any bytes.
+    /// One sheet: valid, with bytes damaged, or of any bytes; some then of a wrong length.
     fn sheet(&mut self, chance: &mut Chance) {
         let count = chance.count();
         let steps = chance.steps(count);
         let mut sheet = sheet_of(&steps);
-        match chance.below(20) {
-            0..=3 if !steps.is_empty() => {
-                let (at, byte) = chance.damage(&mut sheet);
-                if let Err((13, _)) = model::translation(&sheet, usize::MAX) {
-                    self.counts.add("refused for the byte", byte as u64);
-                    self.counts.saw("kinds and bytes refused", &[steps[at].kind, byte as u8]);
-                }
-            }
-            4 if !steps.is_empty() => {
+        let sort = if steps.is_empty() { 0 } else { chance.one(&[0, 0, 0, 0, 0, 0, 0, 0, 0, 0, 1, 1, 1, 1, 2, 3]) };
+        match sort {
+            1 => self.damaged(chance, &steps, &mut sheet),
+            2 => {
                 chance.damage(&mut sheet);
                 chance.damage(&mut sheet);
-                self.counts.add("sheets with two bytes damaged", 2);
             }
-            5 => wrong_length(chance, &mut sheet),
-            6 => sheet.iter_mut().for_each(|byte| *byte = chance.word() as u8 & 15),
+            3 => sheet.iter_mut().for_each(|byte| *byte = chance.word() as u8 & 15),
             _ => {}
         }
+        self.counts.add("sheets made (0 valid, 1 a byte replaced, 2 two bytes, 3 any bytes)", sort);
+        if chance.once_in(16) {
+            wrong_length(chance, &mut sheet);
+        }
         self.translated(chance, &sheet);
+    }
+
+    /// One byte replaced.
+    fn damaged(&mut self, chance: &mut Chance, steps: &[Step], sheet: &mut [u8]) {
+        let (at, byte) = chance.damage(sheet);
+        if let Err((13, _)) = model::translation(sheet, usize::MAX) {
+            self.counts.add("refused for the byte", byte as u64);
+            self.counts.saw("kinds and bytes refused", &[steps[at].kind, byte as u8]);
+            self.counts.saw("kinds, bytes and values refused", &[steps[at].kind, byte as u8, sheet[STEP * at + byte]]);
+        }
     }
 
     /// A sheet translated into an output of some length; then its runs.
@@ -178,12 +185,8 @@ impl Compared {
         let start = chance.one(&[any, any, any, n, n + 1, 2 * n + 1, u64::MAX, 1 << 63]);
         let budget = chance.one(&[0, n.saturating_sub(start), n, u64::MAX]);
         self.run(code, start, file, budget, model::run(pairs, start, file, budget));
-        self.counts.add("starts (0 at 0, 1 inside, 2 the end, 3 past it)", match start {
-            0 => 0,
-            _ if start < n => 1,
-            _ if start == n => 2,
-            _ => 3,
-        });
+        let place = if start == 0 { 0 } else { 1 + u64::from(start >= n) + u64::from(start > n) };
+        self.counts.add("runs from a start (0 at 0, 1 inside, 2 the end, 3 past it)", place);
     }
 
     /// An odd halfword count.
@@ -196,7 +199,7 @@ impl Compared {
         }
         let (start, budget) = (chance.one(&[0, 0, 1, u64::MAX]), chance.one(&[0, 1, u64::MAX]));
         self.run(&code, start, file, budget, (11, 0, *file));
-        self.counts.add("runs of halfwords modulo 2", 1);
+        self.counts.add("runs of halfwords, modulo 2", code.len() as u64 % 2);
     }
 
     /// A file of another length, left as it was.

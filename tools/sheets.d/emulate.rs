@@ -40,8 +40,7 @@ fn emulated(harness: &str, programs: &[Program]) -> Vec<[u64; 32]> {
     let writer = thread::spawn(move || into.write_all(&given).expect("the programs are read"));
     let output = child.wait_with_output().expect("qemu-arm ends");
     writer.join().expect("written");
-    let words: Vec<u64> =
-        output.stdout.chunks(8).map(|b| u64::from_le_bytes(b.try_into().expect("8 bytes"))).collect();
+    let words: Vec<u64> = output.stdout.chunks(8).map(|b| u64::from_le_bytes(b.try_into().expect("8 bytes"))).collect();
     words.chunks(32).map(|file| file.try_into().expect("32 words")).collect()
 }
 
@@ -61,9 +60,6 @@ pub fn emulate(harness: &str, count: usize) -> ExitCode {
     }
     let steps: usize = programs.iter().map(|program| program.steps.len()).sum();
     let pairs: usize = programs.iter().map(|program| program.code.len() / 2).sum();
-    println!(
-        "emulated {count} programs, {steps} steps, {pairs} pairs: {} disagreements",
-        report.disagreements
-    );
+    println!("emulated {count} programs, {steps} steps, {pairs} pairs: {} disagreements", report.disagreements);
     report.status()
 }

@@ -10,9 +10,8 @@ pub type Rows = [u128; 14];
 
 /// What each kind uses: a, b, c; w a width code to 3, n one to 2; l an amount to w - 1, r one to w;
 /// s the sign; k the two words.
-const USES: [&str; 15] = [
-    "k", "a", "abw", "abw", "abn", "ab", "ab", "ab", "a", "awl", "awrs", "abns", "abns", "abns", "abc",
-];
+const USES: [&str; 15] =
+    ["k", "a", "abw", "abw", "abn", "ab", "ab", "ab", "a", "awl", "awrs", "abns", "abns", "abns", "abc"];
 
 #[derive(Clone, Copy, Debug, Default)]
 pub struct Step {
@@ -69,11 +68,23 @@ impl Step {
     pub fn keeps(&self) -> bool {
         let uses = |letter| uses(self.kind, letter);
         let row = |letter, byte: u8| byte <= if uses(letter) { 13 } else { 0 };
-        let widest = if uses('w') { 3 } else if uses('n') { 2 } else { 0 };
+        let widest = if uses('w') {
+            3
+        } else if uses('n') {
+            2
+        } else {
+            0
+        };
         if self.kind > 14 || self.width > widest {
             return false;
         }
-        let amounts = if uses('l') { self.bits() - 1 } else if uses('r') { self.bits() } else { 0 };
+        let amounts = if uses('l') {
+            self.bits() - 1
+        } else if uses('r') {
+            self.bits()
+        } else {
+            0
+        };
         self.target <= 13
             && row('a', self.a)
             && row('b', self.b)
@@ -114,7 +125,11 @@ impl Step {
         let lane = |x: u128, at: u32| {
             let number = (x >> at) as i128 & (modulus - 1);
             let negative = self.sign == 1 && number >> (w - 1) == 1;
-            if negative { number - modulus } else { number }
+            if negative {
+                number - modulus
+            } else {
+                number
+            }
         };
         let put = |at: u32| (f(lane(a, at), lane(b, at)).rem_euclid(modulus) as u128) << at;
         (0..128).step_by(w as usize).map(put).sum()

@@ -178,16 +178,10 @@ impl Pair {
             Op::Mul => self.lanes(n, m, |n, m| n.wrapping_mul(m)),
             Op::Max(sign) => self.lanes(n, m, |n, m| if self.less(sign, n, m) { m } else { n }),
             Op::Min(sign) => self.lanes(n, m, |n, m| if self.less(sign, n, m) { n } else { m }),
-            Op::Greater(sign) => {
-                self.lanes(n, m, |n, m| if self.less(sign, m, n) { u64::MAX } else { 0 })
-            }
+            Op::Greater(sign) => self.lanes(n, m, |n, m| if self.less(sign, m, n) { u64::MAX } else { 0 }),
             Op::Left(amount) => self.lanes(n, m, |_, m| m << amount),
-            Op::Right(1, amount) => {
-                self.lanes(n, m, |_, m| (self.signed(m) >> amount.min(63)) as u64)
-            }
-            Op::Right(_, amount) => {
-                self.lanes(n, m, |_, m| m.checked_shr(amount.into()).unwrap_or(0))
-            }
+            Op::Right(1, amount) => self.lanes(n, m, |_, m| (self.signed(m) >> amount.min(63)) as u64),
+            Op::Right(_, amount) => self.lanes(n, m, |_, m| m.checked_shr(amount.into()).unwrap_or(0)),
             Op::Set(byte) => both_words(byte.into()),
             Op::Join(byte, at) => d | both_words(u32::from(byte) << at),
             Op::Mask => 0xffff_ffff,
@@ -201,7 +195,11 @@ impl Pair {
     }
 
     fn less(&self, sign: u8, x: u64, y: u64) -> bool {
-        if sign == 1 { self.signed(x) < self.signed(y) } else { x < y }
+        if sign == 1 {
+            self.signed(x) < self.signed(y)
+        } else {
+            x < y
+        }
     }
 
     fn lanes(&self, n: u64, m: u64, f: impl Fn(u64, u64) -> u64) -> u64 {

@@ -14,6 +14,7 @@ const HALFWORDS: usize = 10304;
 const RANDOM: usize = 40;
 
 /// A kind, a byte of its step and a value that breaks a rule.
+#[rustfmt::skip]
 const WRONG: [(u8, usize, u8); 22] = [
     (2, 5, 4), (3, 5, 4), (9, 5, 4), (10, 5, 4), (4, 5, 3), (11, 5, 3), (12, 5, 3), (13, 5, 3),
     (10, 7, 2), (11, 7, 2), (12, 7, 2), (13, 7, 2), (2, 7, 1), (3, 7, 1), (9, 7, 1), (2, 6, 1), (11, 6, 1),
