@@ -1,0 +1,97 @@
+// Numbers and literal texts. A byte past the end of the buffer is not stored but counted, so that to measure is to write to nothing.
+ghost use mathlib.Core.Path.{_≡_};
+ghost use mathlib.Core.List.{_∷_, []};
+ghost use Prim.Native.Nat.{_+_, _-_, _/_, _%_, _<_, _^_};
+ghost use lib.ListN.{length};
+ghost use Rattle.listing.specs.Puts.{Puts};
+ghost use Rattle.listing.specs.Text.{decimal, minus, signed, hexDigit, hex4};
+
+// One byte; the answer is the place after it.
+pub fn put(out: &mut [u8], at: usize, b: u8) -> usize
+    requires { ⌜ at < 2 ^ 64 - 1 ⌝ }
+    ensures { λ r. ⌜ Puts 1 (now (out .entry)) at (b ∷ []) (now (out .exit)) r ⌝ }
+{
+    let next = at + 1;
+    if at < out.len() {
+        out[at] = b;
+    }
+    next
+}
+
+// Two decimal digits.
+fn put_two(out: &mut [u8], at: usize, n: u64) -> usize
+    requires { ⌜ at < 2 ^ 63 ⌝ }
+    requires { ⌜ n < 100 ⌝ }
+    ensures { λ r. ⌜ Puts 2 (now (out .entry)) at ((48 + n / 10) ∷ (48 + n % 10) ∷ []) (now (out .exit)) r ⌝ }
+{
+    let p = put(out, at, 48 + (n / 10) as u8);
+    put(out, p, 48 + (n % 10) as u8)
+}
+
+// A number in decimal.
+pub fn put_decimal(out: &mut [u8], at: usize, n: u64) -> usize
+    requires { ⌜ at < 2 ^ 62 ⌝ }
+    ensures { λ r. ⌜ Puts 20 (now (out .entry)) at (decimal n) (now (out .exit)) r ⌝ }
+{
+    if n < 10 {
+        return put(out, at, 48 + n as u8);
+    }
+    if n < 100 {
+        return put_two(out, at, n);
+    }
+    let p = put_decimal(out, at, n / 100);
+    put_two(out, p, n % 100)
+}
+
+// A minus for what is negative.
+pub fn put_minus(out: &mut [u8], at: usize, negative: bool) -> usize
+    requires { ⌜ at < 2 ^ 62 ⌝ }
+    ensures { λ r. ⌜ Puts 1 (now (out .entry)) at (minus negative) (now (out .exit)) r ⌝ }
+{
+    if negative { put(out, at, b'-') } else { at }
+}
+
+// A whole number, with a sign only when it is negative.
+pub fn put_signed(out: &mut [u8], at: usize, v: i64) -> usize
+    requires { ⌜ at < 2 ^ 61 ⌝ }
+    ensures { λ r. ⌜ Puts 20 (now (out .entry)) at (signed v) (now (out .exit)) r ⌝ }
+{
+    if 0 <= v {
+        return put_decimal(out, at, v as u64);
+    }
+    let p = put(out, at, b'-');
+    put_decimal(out, p, (-1 - v) as u64 + 1)
+}
+
+fn hex_digit(d: u16) -> u8
+    ensures { λ r. ⌜ r ≡ hexDigit (d % 16) ⌝ }
+{
+    let digit = (d % 16) as u8;
+    if digit < 10 { 48 + digit } else { 87 + digit }
+}
+
+// The four hexadecimal digits of a halfword, after a space.
+pub fn put_halfword(out: &mut [u8], at: usize, h: u16) -> usize
+    requires { ⌜ at < 2 ^ 62 ⌝ }
+    ensures { λ r. ⌜ Puts 5 (now (out .entry)) at (32 ∷ hex4 h) (now (out .exit)) r ⌝ }
+{
+    let p = put(out, at, b' ');
+    let q = put(out, p, hex_digit(h / 4096));
+    let r = put(out, q, hex_digit(h / 256));
+    let s = put(out, r, hex_digit(h / 16));
+    put(out, s, hex_digit(h))
+}
+
+// All bytes of a text.
+pub fn put_text(out: &mut [u8], at: usize, s: &[u8]) -> usize
+    requires { ⌜ at < 2 ^ 62 ⌝ }
+    ensures { λ r. ⌜ Puts (length (now (s .entry))) (now (out .entry)) at (now (s .entry)) (now (out .exit)) r ⌝ }
+{
+    let mut p = at;
+    let mut j = 0;
+    while j < s.len() {
+        p = put(out, p, s[j]);
+        j += 1;
+    }
+    p
+}
