@@ -4,12 +4,15 @@ use mathlib.Core.Path.{_≡_, refl, ap, sym, _∙_}
 use mathlib.Core.List.{List, [], _∷_, _++_, append-assoc}
 use mathlib.Core.Bool.{Bool, true, false}
 use Prim.Native.Nat.{ℕ, zero, suc, _+_, _*_, _/_, _%_, _^_, _<_, _≤_}
-use native.Mathlib.Nat.{not-suc-le-zero, pow-succ'}
+use native.Mathlib.Nat.{add-zero, not-suc-le-zero, pow-succ'}
 use native.Mathlib.Omega.{arith}
 use lib.Dec.{ltb}
 use borrow.Author.Tests.{ltb-true, ltb-false}
 use lib.ListN.{length, length-append}
+use Rattle.laws.specs.Choice.{choose}
+use Rattle.listing.specs.Puts.{Puts}
 use Rattle.listing.specs.Text.{digits, decimal}
+use Rattle.listing.proofs.Sets.{then, over, widen}
 
 digits-zero : (f : ℕ) → digits f 0 ≡ []
 unfolding digits
@@ -56,6 +59,17 @@ decimal-hundred n h =
     ∙ append-assoc (decimal (n / 10 / 10)) ((48 + n / 10 % 10) ∷ []) ((48 + n % 10) ∷ [])
     ∙ rw (q, r, s)
 
+pub decimal-myriad : (n : ℕ) → 10000 ≤ n →
+    decimal n ≡ decimal (n / 10000) ++ (48 + n % 10000 / 100 / 10) ∷ (48 + n % 10000 / 100 % 10) ∷ (48 + n % 10000 % 100 / 10) ∷ (48 + n % 10000 % 100 % 10) ∷ []
+decimal-myriad n h =
+    let q : n / 100 / 100 ≡ n / 10000 = omega arith in
+    let r : n / 100 % 100 ≡ n % 10000 / 100 = omega arith in
+    let s : n % 100 ≡ n % 10000 % 100 = omega arith in
+    decimal-hundred n (omega arith)
+    ∙ ap (λ (l : List ℕ). l ++ ((48 + n % 100 / 10) ∷ (48 + n % 100 % 10) ∷ [])) (decimal-hundred (n / 100) (omega arith))
+    ∙ append-assoc (decimal (n / 100 / 100)) ((48 + n / 100 % 100 / 10) ∷ (48 + n / 100 % 100 % 10) ∷ []) ((48 + n % 100 / 10) ∷ (48 + n % 100 % 10) ∷ [])
+    ∙ rw (q, r, s)
+
 -- a number below 10^k has at most k digits
 pub within : (k n : ℕ) → n < 10 ^ suc k → length (decimal n) ≤ suc k
 within zero n h = rw (decimal-one n h) (omega arith)
@@ -67,3 +81,17 @@ within (suc k) n h = go (ltb n 10) refl (within k (n / 10) (omega (arith, pow-su
 
 pub twenty : (n : ℕ) → n < 2 ^ 64 → length (decimal n) ≤ 20
 twenty n h = within 19 n (omega arith)
+
+-- two digits, of which the last is put over the first where that is a leading 0
+pub small : {l l′ l″ : List ℕ} {i j k w : ℕ} (n : ℕ) → n < 100 → w ≡ choose (ltb n 10) 0 1 → Puts 1 l i ((48 + n / 10) ∷ []) l′ j
+    → Puts 1 l′ (i + w) ((48 + n % 10) ∷ []) l″ k → Puts 2 l i (decimal n) l″ k
+small {l = l} {l″ = l″} {i = i} {j = j} {k = k} n h e p q = go (ltb n 10) refl
+  where
+    go : (b : Bool) → ltb n 10 ≡ b → Puts 2 l i (decimal n) l″ k
+    go true t =
+        let m : n % 10 ≡ n = omega (arith, ltb-true n 10 t) in
+        let o = rw (e, t, add-zero) at q in
+        rw (decimal-one n (ltb-true n 10 t)) (widen (omega arith) (over p (rw m at o)))
+    go false t =
+        let m : i + 1 ≡ j = sym (p .end) in
+        rw (decimal-two n (ltb-false n 10 t) h) (then p (rw (e, t, m) at q))

@@ -7,7 +7,7 @@ use native.Mathlib.Nat.{add-zero, add-suc, suc-add}
 use native.Mathlib.Numerals.{add-one}
 use native.Mathlib.Omega.{arith}
 use lib.ListN.{length, set, getD, take, length-append}
-use lib.Seq.{sets, take-suc, take-all}
+use lib.Seq.{sets, set-set, take-suc, take-all}
 use Rattle.listing.specs.Puts.{Puts}
 
 sets-then : (s l : List ℕ) (i : ℕ) (t : List ℕ) → sets (sets l i s) (i + length s) t ≡ sets l i (s ++ t)
@@ -21,6 +21,10 @@ then {l = l} {i = i} {s = s} {t = t} p q = record {
   end = omega (arith, length-append s t);
   short = omega (arith, length-append s t);
 }
+
+-- a byte put over another
+pub over : {a b : ℕ} {l l′ l″ : List ℕ} {i j k x y : ℕ} → Puts a l i (x ∷ []) l′ j → Puts b l′ i (y ∷ []) l″ k → Puts b l i (y ∷ []) l″ k
+over {l = l} {i = i} {x = x} {y = y} p q = record { out = q .out ∙ rw (p .out) (set-set l i x y); end = q .end; short = q .short }
 
 pub widen : {a b : ℕ} {l l′ : List ℕ} {i j : ℕ} {s : List ℕ} → a ≤ b → Puts a l i s l′ j → Puts b l i s l′ j
 widen h p = record { out = p .out; end = p .end; short = omega arith }

@@ -14,7 +14,7 @@ use decode::Reading;
 // A record, or the refusal.
 fn put_reading(out: &mut [u8], at: usize, x: Reading, names: &[u8; 4152]) -> usize
     requires { ⌜ NameTable (now names) ⌝ }
-    requires { ⌜ at < 2 ^ 56 ⌝ }
+    requires { ⌜ at < 2 ^ 55 ⌝ }
     ensures { λ r. ⌜ Puts 78 (now (out .entry)) at (readingText (readingAnswer x)) (now (out .exit)) r ⌝ }
 {
     match x {
@@ -29,7 +29,7 @@ fn put_reading(out: &mut [u8], at: usize, x: Reading, names: &[u8; 4152]) -> usi
 // A pair's line and its end.
 fn put_line(out: &mut [u8], at: usize, i: u64, hw1: u16, hw2: u16, names: &[u8; 4152]) -> usize
     requires { ⌜ NameTable (now names) ⌝ }
-    requires { ⌜ at < 2 ^ 55 ⌝ }
+    requires { ⌜ at < 2 ^ 54 ⌝ }
     requires { ⌜ i < 16384 ⌝ }
     ensures { λ r. ⌜ Puts 55 (now (out .entry)) at (lineText i hw1 hw2 ++ 10 ∷ []) (now (out .exit)) r ⌝ }
 {
@@ -58,7 +58,7 @@ fn halfword_at(input: &[u8], k: usize) -> u16
 // A line for each pair.
 fn put_lines(out: &mut [u8], at: usize, input: &[u8], names: &[u8; 4152]) -> usize
     requires { ⌜ NameTable (now names) ⌝ }
-    requires { ⌜ at < 2 ^ 54 ⌝ }
+    requires { ⌜ at < 2 ^ 53 ⌝ }
     requires { ⌜ length (now input) ≤ 65536 ⌝ }
     ensures { λ r. ⌜ Puts (55 * (length (now (input .entry)) / 4)) (now (out .entry)) at (text (map (pairLine (now (input .entry))) (below (length (now (input .entry)) / 4)))) (now (out .exit)) r ⌝ }
 {

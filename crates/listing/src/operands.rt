@@ -37,16 +37,19 @@ fn put_name(out: &mut [u8], at: usize, m: u16, names: &[u8; 4152]) -> usize
 
 // A letter and a number.
 fn put_register(out: &mut [u8], at: usize, letter: u8, n: u8) -> usize
-    requires { ⌜ at < 2 ^ 61 ⌝ }
+    requires { ⌜ at < 2 ^ 60 ⌝ }
     ensures { λ r. ⌜ Puts 4 (now (out .entry)) at (letter ∷ decimal n) (now (out .exit)) r ⌝ }
 {
     let p = text::put(out, at, letter);
+    if n < 100 {
+        return text::put_small(out, p, n as u64);
+    }
     text::put_decimal(out, p, n as u64)
 }
 
 // A float as k over 128.
 fn put_over(out: &mut [u8], at: usize, x: f64) -> usize
-    requires { ⌜ at < 2 ^ 61 ⌝ }
+    requires { ⌜ at < 2 ^ 60 ⌝ }
     ensures { λ r. ⌜ Puts 9 (now (out .entry)) at (overText (findFloat x)) (now (out .exit)) r ⌝ }
 {
     let found = immediates::float::float_imm8(x);
@@ -61,7 +64,7 @@ fn put_over(out: &mut [u8], at: usize, x: f64) -> usize
 }
 
 fn put_operand(out: &mut [u8], at: usize, o: Operand) -> usize
-    requires { ⌜ at < 2 ^ 60 ⌝ }
+    requires { ⌜ at < 2 ^ 59 ⌝ }
     ensures { λ r. ⌜ Puts 21 (now (out .entry)) at (operandText o) (now (out .exit)) r ⌝ }
 {
     match o {
@@ -83,7 +86,7 @@ fn put_operand(out: &mut [u8], at: usize, o: Operand) -> usize
 
 // A comma and an operand.
 fn put_next(out: &mut [u8], at: usize, o: Operand) -> usize
-    requires { ⌜ at < 2 ^ 59 ⌝ }
+    requires { ⌜ at < 2 ^ 58 ⌝ }
     ensures { λ r. ⌜ Puts 22 (now (out .entry)) at (44 ∷ operandText o) (now (out .exit)) r ⌝ }
 {
     let p = text::put(out, at, b',');
@@ -92,7 +95,7 @@ fn put_next(out: &mut [u8], at: usize, o: Operand) -> usize
 
 // The operands within the count.
 fn put_operands(out: &mut [u8], at: usize, i: Insn) -> usize
-    requires { ⌜ at < 2 ^ 58 ⌝ }
+    requires { ⌜ at < 2 ^ 57 ⌝ }
     ensures { λ r. ⌜ Puts 65 (now (out .entry)) at (joined (map operandText (operands i))) (now (out .exit)) r ⌝ }
 {
     let first = i.first;
@@ -114,7 +117,7 @@ fn put_operands(out: &mut [u8], at: usize, i: Insn) -> usize
 
 pub fn put_insn(out: &mut [u8], at: usize, i: Insn, names: &[u8; 4152]) -> usize
     requires { ⌜ NameTable (now names) ⌝ }
-    requires { ⌜ at < 2 ^ 57 ⌝ }
+    requires { ⌜ at < 2 ^ 56 ⌝ }
     ensures { λ r. ⌜ Puts 78 (now (out .entry)) at (insnText i) (now (out .exit)) r ⌝ }
 {
     let p = put_name(out, at, i.mnemonic, names);

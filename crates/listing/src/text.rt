@@ -2,7 +2,9 @@
 ghost use mathlib.Core.Path.{_≡_};
 ghost use mathlib.Core.List.{_∷_, []};
 ghost use Prim.Native.Nat.{_+_, _-_, _/_, _%_, _<_, _^_};
+ghost use lib.Dec.{ltb};
 ghost use lib.ListN.{length};
+ghost use Rattle.laws.specs.Choice.{choose};
 ghost use Rattle.listing.specs.Puts.{Puts};
 ghost use Rattle.listing.specs.Text.{decimal, minus, signed, hexDigit, hex4};
 
@@ -28,19 +30,47 @@ fn put_two(out: &mut [u8], at: usize, n: u64) -> usize
     put(out, p, 48 + (n % 10) as u8)
 }
 
+// Four decimal digits.
+fn put_four(out: &mut [u8], at: usize, n: u64) -> usize
+    requires { ⌜ at < 2 ^ 62 ⌝ }
+    requires { ⌜ n < 10000 ⌝ }
+    ensures { λ r. ⌜ Puts 4 (now (out .entry)) at ((48 + n / 100 / 10) ∷ (48 + n / 100 % 10) ∷ (48 + n % 100 / 10) ∷ (48 + n % 100 % 10) ∷ []) (now (out .exit)) r ⌝ }
+{
+    let p = put_two(out, at, n / 100);
+    put_two(out, p, n % 100)
+}
+
+// 1 for a number of two digits, else 0.
+fn tens(n: u64) -> usize
+    ensures { λ r. ⌜ (r ≡ choose (ltb n 10) 0 1) × (r < 2) ⌝ }
+{
+    if n < 10 { 0 } else { 1 }
+}
+
+// A number of one or two digits, with no branch: the last digit is stored over a leading 0.
+pub fn put_small(out: &mut [u8], at: usize, n: u64) -> usize
+    requires { ⌜ at < 2 ^ 62 ⌝ }
+    requires { ⌜ n < 100 ⌝ }
+    ensures { λ r. ⌜ Puts 2 (now (out .entry)) at (decimal n) (now (out .exit)) r ⌝ }
+{
+    put(out, at, 48 + (n / 10) as u8);
+    put(out, at + tens(n), 48 + (n % 10) as u8)
+}
+
 // A number in decimal.
 pub fn put_decimal(out: &mut [u8], at: usize, n: u64) -> usize
-    requires { ⌜ at < 2 ^ 62 ⌝ }
+    requires { ⌜ at < 2 ^ 61 ⌝ }
     ensures { λ r. ⌜ Puts 20 (now (out .entry)) at (decimal n) (now (out .exit)) r ⌝ }
 {
-    if n < 10 {
-        return put(out, at, 48 + n as u8);
-    }
     if n < 100 {
-        return put_two(out, at, n);
+        return put_small(out, at, n);
     }
-    let p = put_decimal(out, at, n / 100);
-    put_two(out, p, n % 100)
+    if n < 10000 {
+        let p = put_small(out, at, n / 100);
+        return put_two(out, p, n % 100);
+    }
+    let p = put_decimal(out, at, n / 10000);
+    put_four(out, p, n % 10000)
 }
 
 // A minus for what is negative.
@@ -53,7 +83,7 @@ pub fn put_minus(out: &mut [u8], at: usize, negative: bool) -> usize
 
 // A whole number, with a sign only when it is negative.
 pub fn put_signed(out: &mut [u8], at: usize, v: i64) -> usize
-    requires { ⌜ at < 2 ^ 61 ⌝ }
+    requires { ⌜ at < 2 ^ 60 ⌝ }
     ensures { λ r. ⌜ Puts 20 (now (out .entry)) at (signed v) (now (out .exit)) r ⌝ }
 {
     if 0 <= v {

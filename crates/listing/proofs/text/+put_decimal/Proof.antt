@@ -6,13 +6,14 @@ use native.Mathlib.Omega.{arith}
 use borrow.Author.Needs.{needs}
 use borrow.Fn.Kinds.{In}
 use borrow.Fn.PlainCycle.{Measures, is, falls, and}
-use Rattle.listing.proofs.Sets.{then, respell}
-use Rattle.listing.proofs.Decimal.{decimal-one, decimal-two, decimal-hundred, twenty}
+use Rattle.listing.proofs.Sets.{then, widen, respell}
+use Rattle.listing.proofs.Decimal.{decimal-hundred, decimal-myriad, twenty}
 use Rattle.listing.proofs.text.put_decimal.Reads as reads
 use Rattle.listing.proofs.text.put_decimal.Kinds as kinds
 use Rattle.listing.proofs.text.+put_decimal.Lts-put_decimal as lts
-use Rattle.listing.proofs.text.put.Reads as put
+use Rattle.listing.proofs.text.put_small.Reads as small
 use Rattle.listing.proofs.text.put_two.Reads as two
+use Rattle.listing.proofs.text.put_four.Reads as four
 use Rattle.listing.proofs.text.+put_decimal.{statement}
 use Rattle.listing.proofs.text.+put_decimal.Tie.{close}
 
@@ -27,23 +28,21 @@ below t = and 1 kinds.ps (falls 1 kinds.ps _<_ μ t) reads.Pre
 
 pub +put-decimal-spec : {M : Type 1} → statement M
 +put-decimal-spec =
-    close μ λ t. lts.spec (put.Asked, put.Learnt, two.Asked, two.Learnt, below t, reads.Post) (given t) reads.Post
-    (λ c. search needs)
-    (λ c. search needs)
+    close μ λ t. lts.spec (small.Asked, small.Learnt, two.Asked, two.Learnt, below t, reads.Post, four.Asked, four.Learnt) (given t) reads.Post
     (λ c κs. search needs)
     (λ c. search needs)
-    (λ c.
-    let s = c .before .before .before .before .before .before in
-    respell (sym (decimal-one (s .args .n) (omega arith))) (twenty (s .args .n) (s .fits .n .fits)) (c .before .before .put .ensures))
-    (λ c κs. search needs)
-    (λ c. search needs)
-    (λ c.
-    let s = c .before .before .before .before .before .before .before in
-    respell (sym (decimal-two (s .args .n) (omega arith) (omega arith))) (twenty (s .args .n) (s .fits .n .fits)) (c .before .before .put-two .ensures))
+    (λ c. widen (omega arith) (c .before .before .put-small .ensures))
     (λ c κs. search needs)
     (λ c κs. search needs)
     (λ c. search needs)
     (λ c.
     let s = c .before .before .before .before .before .before .before .before .before .before .before in
     respell (sym (decimal-hundred (s .args .n) (omega arith))) (twenty (s .args .n) (s .fits .n .fits))
-    (then (c .before .before .before .before .before .before .put-decimal .ensures) (c .before .before .put-two2 .ensures)))
+    (then (c .before .before .before .before .before .before .put-small2 .ensures) (c .before .before .put-two .ensures)))
+    (λ c κs. search needs)
+    (λ c κs. search needs)
+    (λ c. search needs)
+    (λ c.
+    let s = c .before .before .before .before .before .before .before .before .before .before .before in
+    respell (sym (decimal-myriad (s .args .n) (omega arith))) (twenty (s .args .n) (s .fits .n .fits))
+    (then (c .before .before .before .before .before .before .put-decimal .ensures) (c .before .before .put-four .ensures)))
