@@ -4,15 +4,19 @@ use mathlib.Core.Path.{_≡_, refl, sym, subst, ap, _∙_}
 use mathlib.Core.Logic.{_≢_}
 use mathlib.Core.Bool.{Bool, true, false}
 use mathlib.Core.List.{List, [], _∷_}
-use Prim.Native.Nat.{ℕ, zero, suc, _<_, _≤_}
+use Prim.Native.Nat.{ℕ, zero, suc, _+_, _-_, _*_, _<_, _≤_}
 use Prim.Native.String.{String}
-use native.Mathlib.Nat.{not-suc-le-zero, le-of-suc-le-suc}
+use native.Mathlib.Nat.{add-zero, not-suc-le-zero, le-of-suc-le-suc}
 use native.Mathlib.Omega.{arith}
-use lib.Dec.{T, eqb, ltb}
-use lib.ListN.{length, getD, List·getD-eq-default}
-use borrow.Author.Tests.{eq-eqb, ltb-true, ltb-false}
+use lib.Dec.{T, eqb, leb, ltb}
+use lib.ListN.{length, getD, take, drop, length-drop, List·getD-eq-default}
+use lib.Seq.{getD-drop}
+use borrow.Author.Tests.{eq-eqb, leb-true, ltb-true, ltb-false}
 use Rattle.laws.specs.Choice.{choose}
-use Rattle.tables.specs.Names.{names, nameOf, codes, nameByte}
+use Rattle.laws.proofs.Range.{values, agree}
+use Rattle.tables.specs.Names.{names, nameOf, codes, nameByte, NameTable}
+use Rattle.tables.proofs.Spellings.{short}
+use Rattle.listing.proofs.Sets.{take-four}
 
 no-way : {A : Type 0} → false ≡ true → A
 no-way e = absurd (subst T (sym e) tt)
@@ -72,7 +76,7 @@ going m j n = go (ltb j (length (codes (nameOf m)))) refl
     go false q = absurd (n (List·getD-eq-default (codes (nameOf m)) 32 (ltb-false j _ q)))
 
 -- within the spelling, a byte is what every default gives
-pub name-byte : (m j d : ℕ) → j < length (codes (nameOf m)) → nameByte m j ≡ getD (codes (nameOf m)) j d
+name-byte : (m j d : ℕ) → j < length (codes (nameOf m)) → nameByte m j ≡ getD (codes (nameOf m)) j d
 unfolding nameByte
 name-byte m j d h = within (codes (nameOf m)) j h
   where
@@ -80,3 +84,28 @@ name-byte m j d h = within (codes (nameOf m)) j h
     within [] j h = absurd (not-suc-le-zero h)
     within (x ∷ l) zero h = refl
     within (x ∷ l) (suc j) h = within l j (le-of-suc-le-suc h)
+
+-- every mnemonic has at least four bytes
+four : (m : ℕ) → m < 346 → 4 ≤ length (codes (nameOf m))
+unfolding values names nameOf codes
+four m h = leb-true 4 (length (codes (nameOf m))) (agree (λ (m : ℕ). leb 4 (length (codes (nameOf m)))) (λ (m : ℕ). true) 346 refl m h)
+
+pub begins : (t : List ℕ) → NameTable t → (m : ℕ) → m < 346 →
+    take 4 (codes (nameOf m)) ≡ getD t (m * 12) 0 ∷ getD t (m * 12 + 1) 0 ∷ getD t (m * 12 + 2) 0 ∷ getD t (m * 12 + 3) 0 ∷ []
+begins t n m h =
+    let k = four m h in
+    let b : getD t (m * 12) 0 ≡ getD (codes (nameOf m)) 0 0 = rw add-zero at (n .bytes m 0 h (omega arith)) ∙ name-byte m 0 0 (omega (arith, k)) in
+    take-four (codes (nameOf m)) k
+    ∙ rw (
+      b,
+      n .bytes m 1 h (omega arith) ∙ name-byte m 1 0 (omega (arith, k)),
+      n .bytes m 2 h (omega arith) ∙ name-byte m 2 0 (omega (arith, k)),
+      n .bytes m 3 h (omega arith) ∙ name-byte m 3 0 (omega (arith, k)),
+    )
+
+-- what comes after the first four
+pub ending-byte : (m j : ℕ) → 4 + j < length (codes (nameOf m)) → nameByte m (4 + j) ≡ getD (drop 4 (codes (nameOf m))) j 0
+ending-byte m j h = name-byte m (4 + j) 0 h ∙ sym (getD-drop 4 (codes (nameOf m)) j 0)
+
+pub ending-length : (m : ℕ) → (length (drop 4 (codes (nameOf m))) ≡ length (codes (nameOf m)) - 4) × (length (codes (nameOf m)) ≤ 12)
+ending-length m = (length-drop 4 (codes (nameOf m)), short m)

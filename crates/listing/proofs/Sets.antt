@@ -26,6 +26,14 @@ then {l = l} {i = i} {s = s} {t = t} p q = record {
 pub over : {a b : ℕ} {l l′ l″ : List ℕ} {i j k x y : ℕ} → Puts a l i (x ∷ []) l′ j → Puts b l′ i (y ∷ []) l″ k → Puts b l i (y ∷ []) l″ k
 over {l = l} {i = i} {x = x} {y = y} p q = record { out = q .out ∙ rw (p .out) (set-set l i x y); end = q .end; short = q .short }
 
+-- four bytes stored one by one
+pub word : (l : List ℕ) (i a b c d : ℕ) → set (set (set (set l i a) (i + 1) b) (i + 2) c) (i + 3) d ≡ sets l i (a ∷ b ∷ c ∷ d ∷ [])
+word l i a b c d =
+    let e : i + 1 ≡ suc i = omega arith in
+    let f : i + 2 ≡ suc (suc i) = omega arith in
+    let g : i + 3 ≡ suc (suc (suc i)) = omega arith in
+    rw (e, f, g)
+
 pub widen : {a b : ℕ} {l l′ : List ℕ} {i j : ℕ} {s : List ℕ} → a ≤ b → Puts a l i s l′ j → Puts b l i s l′ j
 widen h p = record { out = p .out; end = p .end; short = omega arith }
 
@@ -47,3 +55,10 @@ copied s j d h p q = rw (add-one, take-suc s j d h) (rw add-one at (then p q))
 
 pub all-copied : {l l′ : List ℕ} {i p : ℕ} {b : ℕ} (s : List ℕ) (j : ℕ) → length s ≤ j → j ≤ b → Puts j l i (take j s) l′ p → Puts b l i s l′ p
 all-copied s j h k p = widen k (rw (take-all j s h) at p)
+
+pub take-four : (s : List ℕ) → 4 ≤ length s → take 4 s ≡ getD s 0 0 ∷ getD s 1 0 ∷ getD s 2 0 ∷ getD s 3 0 ∷ []
+take-four [] h = absurd (let z : ⊥ = omega arith in z)
+take-four (a ∷ []) h = absurd (let z : ⊥ = omega arith in z)
+take-four (a ∷ b ∷ []) h = absurd (let z : ⊥ = omega arith in z)
+take-four (a ∷ b ∷ c ∷ []) h = absurd (let z : ⊥ = omega arith in z)
+take-four (a ∷ b ∷ c ∷ d ∷ s) h = refl

@@ -6,6 +6,8 @@ use Prim.Native.Nat.{ℕ, _+_, _*_, _/_, _≤_}
 use lib.ListN.{length}
 use lib.Seq.{sets}
 use Rattle.laws.specs.Choice.{choose}
+use Rattle.insn.specs.declared.Operand.{Operand}
+use Rattle.insn.specs.declared.Operand.the-variants.{D, Q, S, Imm, Float, Other, Absent}
 use Rattle.listing.specs.Listing.{isListable}
 
 -- text, of at most b bytes, stands in the buffer from place i on, as far as the buffer reaches; r is the place after it
@@ -17,3 +19,22 @@ pub record Puts (b : ℕ) (before : List ℕ) (i : ℕ) (text : List ℕ) (after
 -- no listing of n bytes is longer
 abbrev pub most : ℕ → ℕ
 most n = choose (isListable n) (12 + 55 * (n / 4)) 11
+
+-- the letter of a register, and its number; 0 for what is none
+abbrev pub letterOf : Operand → ℕ
+letterOf (D n) = 100
+letterOf (Q n) = 113
+letterOf (S n) = 115
+letterOf (Imm v) = 0
+letterOf (Float x) = 0
+letterOf Other = 0
+letterOf Absent = 0
+
+abbrev pub numberOf : Operand → ℕ
+numberOf (D n) = n
+numberOf (Q n) = n
+numberOf (S n) = n
+numberOf (Imm v) = 0
+numberOf (Float x) = 0
+numberOf Other = 0
+numberOf Absent = 0

@@ -14,14 +14,15 @@ use decode::Reading;
 // A record, or the refusal.
 fn put_reading(out: &mut [u8], at: usize, x: Reading, names: &[u8; 4152]) -> usize
     requires { ⌜ NameTable (now names) ⌝ }
-    requires { ⌜ at < 2 ^ 55 ⌝ }
+    requires { ⌜ at < 2 ^ 54 ⌝ }
     ensures { λ r. ⌜ Puts 78 (now (out .entry)) at (readingText (readingAnswer x)) (now (out .exit)) r ⌝ }
 {
     match x {
         Reading::Read(i) => operands::put_insn(out, at, i, names),
         Reading::Refused(f) => {
-            let p = text::put_text(out, at, b"refused ");
-            text::put_decimal(out, p, insn::refusal_number(f) as u64)
+            let p = text::put_word(out, at, b'r', b'e', b'f', b'u');
+            let q = text::put_word(out, p, b's', b'e', b'd', b' ');
+            text::put_five(out, q, insn::refusal_number(f) as u64)
         }
     }
 }
@@ -29,11 +30,11 @@ fn put_reading(out: &mut [u8], at: usize, x: Reading, names: &[u8; 4152]) -> usi
 // A pair's line and its end.
 fn put_line(out: &mut [u8], at: usize, i: u64, hw1: u16, hw2: u16, names: &[u8; 4152]) -> usize
     requires { ⌜ NameTable (now names) ⌝ }
-    requires { ⌜ at < 2 ^ 54 ⌝ }
+    requires { ⌜ at < 2 ^ 53 ⌝ }
     requires { ⌜ i < 16384 ⌝ }
     ensures { λ r. ⌜ Puts 55 (now (out .entry)) at (lineText i hw1 hw2 ++ 10 ∷ []) (now (out .exit)) r ⌝ }
 {
-    let p = text::put_decimal(out, at, i);
+    let p = text::put_five(out, at, i);
     let q = text::put_halfword(out, p, hw1);
     let r = text::put_halfword(out, q, hw2);
     let s = text::put(out, r, b' ');
@@ -58,7 +59,7 @@ fn halfword_at(input: &[u8], k: usize) -> u16
 // A line for each pair.
 fn put_lines(out: &mut [u8], at: usize, input: &[u8], names: &[u8; 4152]) -> usize
     requires { ⌜ NameTable (now names) ⌝ }
-    requires { ⌜ at < 2 ^ 53 ⌝ }
+    requires { ⌜ at < 2 ^ 52 ⌝ }
     requires { ⌜ length (now input) ≤ 65536 ⌝ }
     ensures { λ r. ⌜ Puts (55 * (length (now (input .entry)) / 4)) (now (out .entry)) at (text (map (pairLine (now (input .entry))) (below (length (now (input .entry)) / 4)))) (now (out .exit)) r ⌝ }
 {
@@ -104,7 +105,7 @@ pub fn put_listing(out: &mut [u8], input: &[u8], names: &[u8; 4152]) -> usize
 {
     if is_listable(input.len()) {
         let p = text::put_text(out, 0, b"pairs ");
-        let q = text::put_decimal(out, p, (input.len() / 4) as u64);
+        let q = text::put_five(out, p, (input.len() / 4) as u64);
         let r = text::put(out, q, 10);
         return put_lines(out, r, input, names);
     }

@@ -2,30 +2,29 @@
 ghost use mathlib.Core.Path.{_≡_};
 ghost use mathlib.Core.List.{_∷_, map};
 ghost use Prim.Native.Nat.{_<_, _^_};
+ghost use lib.ListN.{drop};
 ghost use Rattle.tables.specs.Names.{codes, nameOf, NameTable};
 ghost use Rattle.immediates.specs.Found.{findFloat};
 ghost use Rattle.listing.specs.Operands.{overText, operandText, joined, operands, insnText};
-ghost use Rattle.listing.specs.Puts.{Puts};
+ghost use Rattle.listing.specs.Puts.{Puts, letterOf, numberOf};
 ghost use Rattle.listing.specs.Text.{decimal};
 use crate::text;
 use immediates::float::FloatFound;
 use insn::Insn;
 use insn::Operand;
 
-// The name of a mnemonic: the bytes of its row up to the first space.
-fn put_name(out: &mut [u8], at: usize, m: u16, names: &[u8; 4152]) -> usize
+// What the name of mnemonic m has after its first four bytes: its row up to the first space.
+fn put_ending(out: &mut [u8], at: usize, m: u16, names: &[u8; 4152]) -> usize
     requires { ⌜ NameTable (now names) ⌝ }
     requires { ⌜ at < 2 ^ 62 ⌝ }
-    ensures { λ r. ⌜ Puts 12 (now (out .entry)) at (codes (nameOf m)) (now (out .exit)) r ⌝ }
+    requires { ⌜ m < 346 ⌝ }
+    ensures { λ r. ⌜ Puts 8 (now (out .entry)) at (drop 4 (codes (nameOf m))) (now (out .exit)) r ⌝ }
 {
-    if 346 <= m {
-        return at;
-    }
     let row = m as usize * 12;
     let mut p = at;
     let mut j = 0;
-    while j < 12 {
-        let c = names[row + j];
+    while j < 8 {
+        let c = names[row + (4 + j)];
         if c == b' ' {
             return p;
         }
@@ -35,16 +34,34 @@ fn put_name(out: &mut [u8], at: usize, m: u16, names: &[u8; 4152]) -> usize
     p
 }
 
+// The name of a mnemonic; every name has at least four bytes.
+fn put_name(out: &mut [u8], at: usize, m: u16, names: &[u8; 4152]) -> usize
+    requires { ⌜ NameTable (now names) ⌝ }
+    requires { ⌜ at < 2 ^ 61 ⌝ }
+    ensures { λ r. ⌜ Puts 12 (now (out .entry)) at (codes (nameOf m)) (now (out .exit)) r ⌝ }
+{
+    if 346 <= m {
+        return at;
+    }
+    let row = m as usize * 12;
+    let p = text::put_word(
+        out,
+        at,
+        names[row],
+        names[row + 1],
+        names[row + 2],
+        names[row + 3],
+    );
+    put_ending(out, p, m, names)
+}
+
 // A letter and a number.
 fn put_register(out: &mut [u8], at: usize, letter: u8, n: u8) -> usize
     requires { ⌜ at < 2 ^ 60 ⌝ }
     ensures { λ r. ⌜ Puts 4 (now (out .entry)) at (letter ∷ decimal n) (now (out .exit)) r ⌝ }
 {
     let p = text::put(out, at, letter);
-    if n < 100 {
-        return text::put_small(out, p, n as u64);
-    }
-    text::put_decimal(out, p, n as u64)
+    text::put_five(out, p, n as u64)
 }
 
 // A float as k over 128.
@@ -56,21 +73,53 @@ fn put_over(out: &mut [u8], at: usize, x: f64) -> usize
     match found {
         FloatFound::Imm8(b) => {
             let p = text::put_minus(out, at, 128 <= b);
-            let q = text::put_decimal(out, p, immediates::modified::float_k(b) as u64);
-            text::put_text(out, q, b"/128")
+            let q = text::put_five(out, p, immediates::modified::float_k(b) as u64);
+            text::put_word(out, q, b'/', b'1', b'2', b'8')
         }
         FloatFound::NoImm8 => at,
     }
 }
 
-fn put_operand(out: &mut [u8], at: usize, o: Operand) -> usize
-    requires { ⌜ at < 2 ^ 59 ⌝ }
+// The letter of a register; 0 for what is none.
+fn letter_of(o: Operand) -> u8
+    ensures { λ r. ⌜ r ≡ letterOf o ⌝ }
+{
+    match o {
+        Operand::D(_) => b'd',
+        Operand::Q(_) => b'q',
+        Operand::S(_) => b's',
+        Operand::Imm(_) => 0,
+        Operand::Float(_) => 0,
+        Operand::Other => 0,
+        Operand::Absent => 0,
+    }
+}
+
+// The number of a register; 0 for what is none.
+fn number_of(o: Operand) -> u8
+    ensures { λ r. ⌜ r ≡ numberOf o ⌝ }
+{
+    match o {
+        Operand::D(n) => n,
+        Operand::Q(n) => n,
+        Operand::S(n) => n,
+        Operand::Imm(_) => 0,
+        Operand::Float(_) => 0,
+        Operand::Other => 0,
+        Operand::Absent => 0,
+    }
+}
+
+// An operand that is no register.
+fn put_value(out: &mut [u8], at: usize, o: Operand) -> usize
+    requires { ⌜ at < 2 ^ 58 ⌝ }
+    requires { ⌜ letterOf o ≡ 0 ⌝ }
     ensures { λ r. ⌜ Puts 21 (now (out .entry)) at (operandText o) (now (out .exit)) r ⌝ }
 {
     match o {
-        Operand::D(n) => put_register(out, at, b'd', n),
-        Operand::Q(n) => put_register(out, at, b'q', n),
-        Operand::S(n) => put_register(out, at, b's', n),
+        Operand::D(_) => at,
+        Operand::Q(_) => at,
+        Operand::S(_) => at,
         Operand::Imm(v) => {
             let p = text::put(out, at, b'#');
             text::put_signed(out, p, v)
@@ -84,9 +133,21 @@ fn put_operand(out: &mut [u8], at: usize, o: Operand) -> usize
     }
 }
 
+// An operand; D and Q take the same way.
+fn put_operand(out: &mut [u8], at: usize, o: Operand) -> usize
+    requires { ⌜ at < 2 ^ 58 ⌝ }
+    ensures { λ r. ⌜ Puts 21 (now (out .entry)) at (operandText o) (now (out .exit)) r ⌝ }
+{
+    let letter = letter_of(o);
+    if letter == 0 {
+        return put_value(out, at, o);
+    }
+    put_register(out, at, letter, number_of(o))
+}
+
 // A comma and an operand.
 fn put_next(out: &mut [u8], at: usize, o: Operand) -> usize
-    requires { ⌜ at < 2 ^ 58 ⌝ }
+    requires { ⌜ at < 2 ^ 57 ⌝ }
     ensures { λ r. ⌜ Puts 22 (now (out .entry)) at (44 ∷ operandText o) (now (out .exit)) r ⌝ }
 {
     let p = text::put(out, at, b',');
@@ -95,7 +156,7 @@ fn put_next(out: &mut [u8], at: usize, o: Operand) -> usize
 
 // The operands within the count.
 fn put_operands(out: &mut [u8], at: usize, i: Insn) -> usize
-    requires { ⌜ at < 2 ^ 57 ⌝ }
+    requires { ⌜ at < 2 ^ 56 ⌝ }
     ensures { λ r. ⌜ Puts 65 (now (out .entry)) at (joined (map operandText (operands i))) (now (out .exit)) r ⌝ }
 {
     let first = i.first;
@@ -117,7 +178,7 @@ fn put_operands(out: &mut [u8], at: usize, i: Insn) -> usize
 
 pub fn put_insn(out: &mut [u8], at: usize, i: Insn, names: &[u8; 4152]) -> usize
     requires { ⌜ NameTable (now names) ⌝ }
-    requires { ⌜ at < 2 ^ 56 ⌝ }
+    requires { ⌜ at < 2 ^ 55 ⌝ }
     ensures { λ r. ⌜ Puts 78 (now (out .entry)) at (insnText i) (now (out .exit)) r ⌝ }
 {
     let p = put_name(out, at, i.mnemonic, names);

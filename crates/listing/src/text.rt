@@ -20,6 +20,24 @@ pub fn put(out: &mut [u8], at: usize, b: u8) -> usize
     next
 }
 
+// Four bytes; one test for all, where there is room.
+pub fn put_word(out: &mut [u8], at: usize, a: u8, b: u8, c: u8, d: u8) -> usize
+    requires { ⌜ at < 2 ^ 62 ⌝ }
+    ensures { λ r. ⌜ Puts 4 (now (out .entry)) at (a ∷ b ∷ c ∷ d ∷ []) (now (out .exit)) r ⌝ }
+{
+    if at + 4 <= out.len() {
+        out[at] = a;
+        out[at + 1] = b;
+        out[at + 2] = c;
+        out[at + 3] = d;
+        return at + 4;
+    }
+    let p = put(out, at, a);
+    let q = put(out, p, b);
+    let r = put(out, q, c);
+    put(out, r, d)
+}
+
 // Two decimal digits.
 fn put_two(out: &mut [u8], at: usize, n: u64) -> usize
     requires { ⌜ at < 2 ^ 63 ⌝ }
@@ -28,16 +46,6 @@ fn put_two(out: &mut [u8], at: usize, n: u64) -> usize
 {
     let p = put(out, at, 48 + (n / 10) as u8);
     put(out, p, 48 + (n % 10) as u8)
-}
-
-// Four decimal digits.
-fn put_four(out: &mut [u8], at: usize, n: u64) -> usize
-    requires { ⌜ at < 2 ^ 62 ⌝ }
-    requires { ⌜ n < 10000 ⌝ }
-    ensures { λ r. ⌜ Puts 4 (now (out .entry)) at ((48 + n / 100 / 10) ∷ (48 + n / 100 % 10) ∷ (48 + n % 100 / 10) ∷ (48 + n % 100 % 10) ∷ []) (now (out .exit)) r ⌝ }
-{
-    let p = put_two(out, at, n / 100);
-    put_two(out, p, n % 100)
 }
 
 // 1 for a number of two digits, else 0.
@@ -57,10 +65,27 @@ pub fn put_small(out: &mut [u8], at: usize, n: u64) -> usize
     put(out, at + tens(n), 48 + (n % 10) as u8)
 }
 
-// A number in decimal.
-pub fn put_decimal(out: &mut [u8], at: usize, n: u64) -> usize
+// Four decimal digits.
+fn put_four(out: &mut [u8], at: usize, n: u64) -> usize
+    requires { ⌜ at < 2 ^ 62 ⌝ }
+    requires { ⌜ n < 10000 ⌝ }
+    ensures { λ r. ⌜ Puts 4 (now (out .entry)) at ((48 + n / 100 / 10) ∷ (48 + n / 100 % 10) ∷ (48 + n % 100 / 10) ∷ (48 + n % 100 % 10) ∷ []) (now (out .exit)) r ⌝ }
+{
+    put_word(
+        out,
+        at,
+        48 + (n / 100 / 10) as u8,
+        48 + (n / 100 % 10) as u8,
+        48 + (n % 100 / 10) as u8,
+        48 + (n % 100 % 10) as u8,
+    )
+}
+
+// A number of at most five digits.
+pub fn put_five(out: &mut [u8], at: usize, n: u64) -> usize
     requires { ⌜ at < 2 ^ 61 ⌝ }
-    ensures { λ r. ⌜ Puts 20 (now (out .entry)) at (decimal n) (now (out .exit)) r ⌝ }
+    requires { ⌜ n < 100000 ⌝ }
+    ensures { λ r. ⌜ Puts 5 (now (out .entry)) at (decimal n) (now (out .exit)) r ⌝ }
 {
     if n < 100 {
         return put_small(out, at, n);
@@ -68,6 +93,18 @@ pub fn put_decimal(out: &mut [u8], at: usize, n: u64) -> usize
     if n < 10000 {
         let p = put_small(out, at, n / 100);
         return put_two(out, p, n % 100);
+    }
+    let p = put(out, at, 48 + (n / 10000) as u8);
+    put_four(out, p, n % 10000)
+}
+
+// A number in decimal.
+pub fn put_decimal(out: &mut [u8], at: usize, n: u64) -> usize
+    requires { ⌜ at < 2 ^ 60 ⌝ }
+    ensures { λ r. ⌜ Puts 20 (now (out .entry)) at (decimal n) (now (out .exit)) r ⌝ }
+{
+    if n < 100000 {
+        return put_five(out, at, n);
     }
     let p = put_decimal(out, at, n / 10000);
     put_four(out, p, n % 10000)
@@ -83,7 +120,7 @@ pub fn put_minus(out: &mut [u8], at: usize, negative: bool) -> usize
 
 // A whole number, with a sign only when it is negative.
 pub fn put_signed(out: &mut [u8], at: usize, v: i64) -> usize
-    requires { ⌜ at < 2 ^ 60 ⌝ }
+    requires { ⌜ at < 2 ^ 59 ⌝ }
     ensures { λ r. ⌜ Puts 20 (now (out .entry)) at (signed v) (now (out .exit)) r ⌝ }
 {
     if 0 <= v {
@@ -102,14 +139,18 @@ fn hex_digit(d: u16) -> u8
 
 // The four hexadecimal digits of a halfword, after a space.
 pub fn put_halfword(out: &mut [u8], at: usize, h: u16) -> usize
-    requires { ⌜ at < 2 ^ 62 ⌝ }
+    requires { ⌜ at < 2 ^ 61 ⌝ }
     ensures { λ r. ⌜ Puts 5 (now (out .entry)) at (32 ∷ hex4 h) (now (out .exit)) r ⌝ }
 {
     let p = put(out, at, b' ');
-    let q = put(out, p, hex_digit(h / 4096));
-    let r = put(out, q, hex_digit(h / 256));
-    let s = put(out, r, hex_digit(h / 16));
-    put(out, s, hex_digit(h))
+    put_word(
+        out,
+        p,
+        hex_digit(h / 4096),
+        hex_digit(h / 256),
+        hex_digit(h / 16),
+        hex_digit(h),
+    )
 }
 
 // All bytes of a text.

@@ -15,9 +15,9 @@ texts : tie.Need-returns
 unfolding lineText
 texts c =
     let a = c .before .before .before .before .before .before .before .before .before .before .before .before .before .before .before .before .before .before .before .before .before .before .before .before .before .before .args in
-    respell {a = 110} refl (omega (arith, length-append (lineText (a .i) (a .hw1) (a .hw2)) (10 ∷ []), line-short (a .i) (a .hw1) (a .hw2) (omega (arith, c .before .before .before .before .before .before .before .before .before .before .before .before .before .before .before .before .before .before .before .before .before .before .before .before .before .before .pre .1 .1))))
+    respell {a = 95} refl (omega (arith, length-append (lineText (a .i) (a .hw1) (a .hw2)) (10 ∷ []), line-short (a .i) (a .hw1) (a .hw2) (omega (arith, c .before .before .before .before .before .before .before .before .before .before .before .before .before .before .before .before .before .before .before .before .before .before .before .before .before .before .pre .1 .1))))
     (rw (← c .before .before .before .before .before .before .before .read .ensures)
-    (then (then (then (then (c .before .before .before .before .before .before .before .before .before .before .before .before .before .before .before .before .before .before .before .before .before .before .before .put-decimal .ensures) (c .before .before .before .before .before .before .before .before .before .before .before .before .before .before .before .before .before .before .before .put-halfword .ensures)) (c .before .before .before .before .before .before .before .before .before .before .before .before .before .before .before .put-halfword2 .ensures))
+    (then (then (then (then (c .before .before .before .before .before .before .before .before .before .before .before .before .before .before .before .before .before .before .before .before .before .before .before .put-five .ensures) (c .before .before .before .before .before .before .before .before .before .before .before .before .before .before .before .before .before .before .before .put-halfword .ensures)) (c .before .before .before .before .before .before .before .before .before .before .before .before .before .before .before .put-halfword2 .ensures))
     (then (c .before .before .before .before .before .before .before .before .before .before .before .put .ensures) (c .before .before .before .before .before .before .put-reading .ensures))) (c .before .before .put2 .ensures)))
 
 pub put-line-spec : {M : Type 1} → statement M

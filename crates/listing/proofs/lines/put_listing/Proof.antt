@@ -1,13 +1,10 @@
 -- `listing::lines::put_listing` meets its contract.
 -- Assumes nothing.
-use mathlib.Core.Path.{refl, sym, _∙_}
-use Prim.Native.Nat.{_/_}
+use mathlib.Core.Path.{sym, _∙_}
 use native.Mathlib.Omega.{arith}
-use lib.ListN.{length}
 use borrow.Author.Needs.{needs}
 use Rattle.tables.specs.Names.{codes}
-use Rattle.listing.proofs.Decimal.{within}
-use Rattle.listing.proofs.Sets.{then, widen, respell}
+use Rattle.listing.proofs.Sets.{then, widen}
 use Rattle.listing.proofs.Whole.{listable}
 use Rattle.listing.specs.Listing.{lines, text}
 use Rattle.listing.proofs.lines.put_listing.Statement.{statement}
@@ -21,15 +18,13 @@ put-listing-spec =
     (λ c κs. search needs)
     (λ c. search needs)
     (λ c κs. search needs)
-    (λ c κs. search needs)
+    (λ c κs. (omega arith, omega (arith, listable _ (sym (c .before .before .before .before .before .before .before .is-listable .ensures) ∙ c .before .before .before .before .before .before .if1 .taken))))
     (λ c κs. search needs)
     (λ c κs. (c .before .before .before .before .before .before .before .before .before .before .before .before .before .before .before .before .before .before .pre, (omega arith, listable _ (sym (c .before .before .before .before .before .before .before .before .before .before .before .before .before .before .before .is-listable .ensures) ∙ c .before .before .before .before .before .before .before .before .before .before .before .before .before .before .if1 .taken))))
     (λ c. search needs)
     (λ c.
-    let e = sym (c .before .before .before .before .before .before .before .before .before .before .before .before .before .before .before .before .before .before .is-listable .ensures) ∙ c .before .before .before .before .before .before .before .before .before .before .before .before .before .before .before .before .before .if1 .taken in
-    let n = length (c .before .before .before .before .before .before .before .before .before .before .before .before .before .before .before .before .before .before .before .before .before .args .input .now) in
-    let d = respell {b = 5} refl (within 4 (n / 4) (omega (arith, listable n e))) (c .before .before .before .before .before .before .before .before .before .before .put-decimal .ensures) in
-    rw e (widen (omega arith) (then (then (c .before .before .before .before .before .before .before .before .before .before .before .before .before .before .put-text .ensures) d) (then (c .before .before .before .before .before .before .put .ensures) (c .before .before .put-lines .ensures)))))
+    rw (sym (c .before .before .before .before .before .before .before .before .before .before .before .before .before .before .before .before .before .before .is-listable .ensures) ∙ c .before .before .before .before .before .before .before .before .before .before .before .before .before .before .before .before .before .if1 .taken)
+    (widen (omega arith) (then (then (c .before .before .before .before .before .before .before .before .before .before .before .before .before .before .put-text .ensures) (c .before .before .before .before .before .before .before .before .before .before .put-five .ensures)) (then (c .before .before .before .before .before .before .put .ensures) (c .before .before .put-lines .ensures)))))
     (λ c. search needs)
     (λ c κs. search needs)
     (λ c. search needs)

@@ -22,12 +22,11 @@ put-over-spec =
     (λ c κs. search needs)
     (λ c. search needs)
     (λ c κs. search needs)
-    (λ c. search needs)
     (λ c κs. search needs)
     (λ c. search needs)
     (λ c. search needs)
     (λ c.
-    let e = sym (c .before .before .before .before .before .before .before .before .before .before .before .before .before .before .before .before .before .float-imm8 .ensures) ∙ ap floatFoundAnswer (c .before .before .before .before .before .before .before .before .before .before .before .before .before .before .before .found .given .1) in
-    respell {a = 25} refl (over-short (findFloat (c .before .before .before .before .before .before .before .before .before .before .before .before .before .before .before .before .before .before .before .args .x)))
-    (rw (e, ← c .before .before .before .before .before .before .before .before .float-k .ensures) (then (then (c .before .before .before .before .before .before .before .before .before .before .before .before .put-minus .ensures) (c .before .before .before .before .before .before .before .put-decimal .ensures)) (c .before .before .put-text .ensures))))
+    let e = sym (c .before .before .before .before .before .before .before .before .before .before .before .before .before .before .before .before .float-imm8 .ensures) ∙ ap floatFoundAnswer (c .before .before .before .before .before .before .before .before .before .before .before .before .before .before .found .given .1) in
+    respell {a = 10} refl (over-short (findFloat (c .before .before .before .before .before .before .before .before .before .before .before .before .before .before .before .before .before .before .args .x)))
+    (rw (e, ← c .before .before .before .before .before .before .before .float-k .ensures) (then (then (c .before .before .before .before .before .before .before .before .before .before .before .put-minus .ensures) (c .before .before .before .before .before .before .put-five .ensures)) (c .before .before .put-word .ensures))))
     (λ c. rw (sym (c .before .before .float-imm8 .ensures) ∙ ap floatFoundAnswer (c .enum-told .given .1)) (nothing _ _)))
