@@ -1,6 +1,7 @@
 -- What the crate's own functions do to the buffer; only their contracts cite it.
 -- Assumes nothing.
 use mathlib.Core.Path.{_≡_}
+use mathlib.Core.Bool.{Bool, true, false}
 use mathlib.Core.List.{List}
 use Prim.Native.Nat.{ℕ, _+_, _*_, _/_, _≤_}
 use lib.ListN.{length}
@@ -19,6 +20,15 @@ pub record Puts (b : ℕ) (before : List ℕ) (i : ℕ) (text : List ℕ) (after
 -- no listing of n bytes is longer
 abbrev pub most : ℕ → ℕ
 most n = choose (isListable n) (12 + 55 * (n / 4)) 11
+
+abbrev pub isRegister : Operand → Bool
+isRegister (D n) = true
+isRegister (Q n) = true
+isRegister (S n) = true
+isRegister (Imm v) = false
+isRegister (Float x) = false
+isRegister Other = false
+isRegister Absent = false
 
 -- the letter of a register, and its number; 0 for what is none
 abbrev pub letterOf : Operand → ℕ

@@ -1,4 +1,5 @@
 // A record: its name, and its operands joined by commas.
+ghost use mathlib.Core.Bool.{false};
 ghost use mathlib.Core.Path.{_≡_};
 ghost use mathlib.Core.List.{_∷_, map};
 ghost use Prim.Native.Nat.{_<_, _^_};
@@ -6,7 +7,7 @@ ghost use lib.ListN.{drop};
 ghost use Rattle.tables.specs.Names.{codes, nameOf, NameTable};
 ghost use Rattle.immediates.specs.Found.{findFloat};
 ghost use Rattle.listing.specs.Operands.{overText, operandText, joined, operands, insnText};
-ghost use Rattle.listing.specs.Puts.{Puts, letterOf, numberOf};
+ghost use Rattle.listing.specs.Puts.{Puts, isRegister, letterOf, numberOf};
 ghost use Rattle.listing.specs.Text.{decimal};
 use crate::text;
 use immediates::float::FloatFound;
@@ -80,6 +81,20 @@ fn put_over(out: &mut [u8], at: usize, x: f64) -> usize
     }
 }
 
+fn is_register(o: Operand) -> bool
+    ensures { λ r. ⌜ r ≡ isRegister o ⌝ }
+{
+    match o {
+        Operand::D(_) => true,
+        Operand::Q(_) => true,
+        Operand::S(_) => true,
+        Operand::Imm(_) => false,
+        Operand::Float(_) => false,
+        Operand::Other => false,
+        Operand::Absent => false,
+    }
+}
+
 // The letter of a register; 0 for what is none.
 fn letter_of(o: Operand) -> u8
     ensures { λ r. ⌜ r ≡ letterOf o ⌝ }
@@ -113,7 +128,7 @@ fn number_of(o: Operand) -> u8
 // An operand that is no register.
 fn put_value(out: &mut [u8], at: usize, o: Operand) -> usize
     requires { ⌜ at < 2 ^ 58 ⌝ }
-    requires { ⌜ letterOf o ≡ 0 ⌝ }
+    requires { ⌜ isRegister o ≡ false ⌝ }
     ensures { λ r. ⌜ Puts 21 (now (out .entry)) at (operandText o) (now (out .exit)) r ⌝ }
 {
     match o {
@@ -133,16 +148,15 @@ fn put_value(out: &mut [u8], at: usize, o: Operand) -> usize
     }
 }
 
-// An operand; D and Q take the same way.
+// An operand; D and Q go the same way, since nothing foretells which it is.
 fn put_operand(out: &mut [u8], at: usize, o: Operand) -> usize
     requires { ⌜ at < 2 ^ 58 ⌝ }
     ensures { λ r. ⌜ Puts 21 (now (out .entry)) at (operandText o) (now (out .exit)) r ⌝ }
 {
-    let letter = letter_of(o);
-    if letter == 0 {
-        return put_value(out, at, o);
+    if is_register(o) {
+        return put_register(out, at, letter_of(o), number_of(o));
     }
-    put_register(out, at, letter, number_of(o))
+    put_value(out, at, o)
 }
 
 // A comma and an operand.

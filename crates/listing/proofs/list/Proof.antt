@@ -19,5 +19,5 @@ list-spec =
     (λ c κs. search needs)
     (λ c κs. search needs)
     (λ c. search needs)
-    (λ c. fits _ _ _ _ (c .before .before .before .before .before .before .before .put-listing2 .ensures .end) (omega (arith, c .before .before .before .before .before .if2 .taken)) (c .before .before .put-listing3 .ensures .out))
+    (λ c. fits _ _ _ _ (omega (arith, c .before .before .before .before .before .before .before .put-listing2 .ensures .end)) (omega (arith, c .before .before .before .before .before .if2 .taken)) (c .before .before .put-listing3 .ensures .out))
     (λ c. too-short _ _ _ (c .before .before .put-listing2 .ensures .end) (omega (arith, c .if2 .left))))

@@ -4,7 +4,7 @@ use mathlib.Core.Path.{sym, _∙_}
 use native.Mathlib.Omega.{arith}
 use borrow.Author.Needs.{needs}
 use Rattle.listing.proofs.Registers.{register-text}
-use Rattle.listing.proofs.Sets.{widen, respell}
+use Rattle.listing.proofs.Sets.{widen}
 use Rattle.listing.proofs.operands.put_operand.Statement.{statement}
 use Rattle.listing.proofs.operands.put_operand.Tie as tie
 
@@ -13,14 +13,14 @@ put-operand-spec =
     tie.close
     (tie.spec
     (λ c κs. search needs)
-    (λ c κs. (omega arith, sym (c .before .before .letter-of .ensures) ∙ c .before .if1 .taken))
-    (λ c. search needs)
-    (λ c. c .before .before .put-value .ensures)
+    (λ c κs. search needs)
     (λ c κs. search needs)
     (λ c κs. search needs)
     (λ c. search needs)
     (λ c.
-    let o = c .before .before .before .before .before .before .before .before .args .o in
-    let e = c .before .before .before .before .before .before .letter-of .ensures in
-    let h = rw (e, c .before .before .before .number-of .ensures) at (c .before .before .put-register .ensures) in
-    widen (omega arith) (rw (register-text o (λ z. c .before .before .before .before .before .if1 .left (e ∙ z))) at h)))
+    let o = c .before .before .before .before .before .before .before .before .before .args .o in
+    let h = rw (c .before .before .before .before .letter-of .ensures, c .before .before .before .number-of .ensures) at (c .before .before .put-register .ensures) in
+    widen (omega arith) (rw (register-text o (sym (c .before .before .before .before .before .before .before .is-register .ensures) ∙ c .before .before .before .before .before .before .if1 .taken)) at h))
+    (λ c κs. (omega arith, sym (c .before .before .is-register .ensures) ∙ c .before .if1 .left))
+    (λ c. search needs)
+    (λ c. c .before .before .put-value .ensures))

@@ -1,13 +1,13 @@
 -- `listing::operands::put_value` meets its contract.
 -- Assumes nothing.
-use mathlib.Core.Path.{sym, ap, _∙_}
+use mathlib.Core.Path.{refl}
 use native.Mathlib.Omega.{arith}
 use mir.Facts.{toZ-ofZ}
 use mir.Syntax.{w64}
 use borrow.Author.Needs.{needs}
+use Rattle.listing.proofs.Registers.{no-register}
 use Rattle.listing.proofs.Sets.{then, nothing, widen}
 use Rattle.listing.specs.Operands.{operandText}
-use Rattle.listing.specs.Puts.{letterOf}
 use Rattle.listing.proofs.operands.put_value.Statement.{statement}
 use Rattle.listing.proofs.operands.put_value.Tie as tie
 
@@ -27,9 +27,9 @@ put-value-spec =
     (λ c κs. search needs)
     (λ c. search needs)
     (λ c. search needs)
-    (λ c. absurd (let z : ⊥ = omega (arith, sym (c .before .before .before .pre .1) ∙ ap letterOf (c .enum-told .given .1)) in z))
-    (λ c. absurd (let z : ⊥ = omega (arith, sym (c .before .before .before .pre .1) ∙ ap letterOf (c .enum-told2 .given .1)) in z))
-    (λ c. absurd (let z : ⊥ = omega (arith, sym (c .before .before .before .pre .1) ∙ ap letterOf (c .enum-told3 .given .1)) in z))
+    (λ c. no-register _ _ (c .before .before .before .pre .1) (c .enum-told .given .1) refl)
+    (λ c. no-register _ _ (c .before .before .before .pre .1) (c .enum-told2 .given .1) refl)
+    (λ c. no-register _ _ (c .before .before .before .pre .1) (c .enum-told3 .given .1) refl)
     (λ c. search needs)
     (λ c.
     let v = c .before .before .before .before .before .before .before .before .before .o .given in
