@@ -62,6 +62,9 @@ fn put_register(out: &mut [u8], at: usize, letter: u8, n: u8) -> usize
     ensures { λ r. ⌜ Puts 4 (now (out .entry)) at (letter ∷ decimal n) (now (out .exit)) r ⌝ }
 {
     let p = text::put(out, at, letter);
+    if n < 100 {
+        return text::put_small(out, p, n as u64);
+    }
     text::put_five(out, p, n as u64)
 }
 
