@@ -25,17 +25,23 @@ fn main() {
 
     let insns: Vec<_> = accepted.iter().filter_map(|&(hw1, hw2)| decode(hw1, hw2, 0)).collect();
     let mut text = String::new();
-    measure("accepted, beside Display alone", &accepted, || display(&insns, &mut text));
-    let mut text = String::new();
-    measure("accepted, beside decoding and a line", &accepted, || lines(&accepted, &mut text));
-    let mut text = String::new();
-    measure("accepted and refused, beside the same", &all, || lines(&all, &mut text));
+    measure("accepted, beside Display alone", &accepted, false, || display(&insns, &mut text));
+    let line = "accepted, beside decoding and a line";
+    measure(line, &accepted, false, || lines(&accepted, &mut text));
+    let exact = "accepted, the same, in a buffer that just fits";
+    measure(exact, &accepted, true, || lines(&accepted, &mut text));
+    measure("accepted and refused, the same", &all, false, || lines(&all, &mut text));
 }
 
-fn measure(what: &str, pairs: &[(u16, u16)], original: impl FnMut()) {
+/// Ours has room for every listing, or just for this one.
+fn measure(what: &str, pairs: &[(u16, u16)], exact: bool, original: impl FnMut()) {
     let bytes: Vec<u8> =
         pairs.iter().flat_map(|&(hw1, hw2)| [hw1, hw2]).flat_map(u16::to_le_bytes).collect();
     let mut out = vec![0; ENOUGH];
+    if exact {
+        let (_, length) = boundary::list(&bytes, &mut out);
+        out.truncate(length as usize);
+    }
     let ours = || {
         let answer = boundary::list(&bytes, &mut out);
         assert_eq!(black_box(answer).0, 0);
