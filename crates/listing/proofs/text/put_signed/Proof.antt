@@ -3,7 +3,6 @@
 use mir.Facts.{toZ-ofZ}
 use borrow.Author.Needs.{needs}
 use Rattle.immediates.proofs.Signs.{flip-is, flip-fits, pos-asks, neg-asks}
-use Rattle.listing.proofs.Decimal.{within}
 use Rattle.listing.proofs.Sets.{then, respell}
 use Rattle.listing.proofs.Signs.{neg-fits, pos-text, neg-text, signed-short}
 use Rattle.listing.proofs.text.put_signed.Statement.{statement}
