@@ -10,7 +10,7 @@ use lib.ListN.{length, set, getD, take, length-append}
 use lib.Seq.{sets, set-set, take-suc, take-all}
 use Rattle.listing.specs.Puts.{Puts}
 
-sets-then : (s l : List ℕ) (i : ℕ) (t : List ℕ) → sets (sets l i s) (i + length s) t ≡ sets l i (s ++ t)
+pub sets-then : (s l : List ℕ) (i : ℕ) (t : List ℕ) → sets (sets l i s) (i + length s) t ≡ sets l i (s ++ t)
 sets-then [] l i t = rw add-zero
 sets-then (a ∷ s) l i t = rw (add-suc, ← suc-add) (sets-then s (set l i a) (suc i) t)
 

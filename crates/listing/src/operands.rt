@@ -1,9 +1,11 @@
 // A record: its name, and its operands joined by commas.
 ghost use mathlib.Core.Bool.{false};
 ghost use mathlib.Core.Path.{_≡_};
-ghost use mathlib.Core.List.{_∷_, map};
+ghost use mathlib.Core.List.{_∷_, [], _++_, map};
 ghost use Prim.Native.Nat.{_<_, _^_};
+ghost use lib.Dec.{eqb};
 ghost use lib.ListN.{drop};
+ghost use Rattle.laws.specs.Choice.{choose};
 ghost use Rattle.tables.specs.Names.{codes, nameOf, NameTable};
 ghost use Rattle.immediates.specs.Found.{findFloat};
 ghost use Rattle.listing.specs.Operands.{overText, operandText, joined, operands, insnText};
@@ -14,35 +16,41 @@ use immediates::float::FloatFound;
 use insn::Insn;
 use insn::Operand;
 
-// What the name of mnemonic m has after its first four bytes: its row up to the first space.
+// 1 for a byte of a name, 0 for a space.
+fn advance(c: u8) -> usize
+    ensures { λ r. ⌜ (r ≡ choose (eqb c 32) 0 1) × (r < 2) ⌝ }
+{
+    if c == b' ' { 0 } else { 1 }
+}
+
+// What follows the first four bytes of the name of mnemonic m, and a space, with no branch: all the row's spaces are
+// stored in one place.
 fn put_ending(out: &mut [u8], at: usize, m: u16, names: &[u8; 4152]) -> usize
     requires { ⌜ NameTable (now names) ⌝ }
     requires { ⌜ at < 2 ^ 62 ⌝ }
     requires { ⌜ m < 346 ⌝ }
-    ensures { λ r. ⌜ Puts 8 (now (out .entry)) at (drop 4 (codes (nameOf m))) (now (out .exit)) r ⌝ }
+    ensures { λ r. ⌜ Puts 9 (now (out .entry)) at (drop 4 (codes (nameOf m)) ++ 32 ∷ []) (now (out .exit)) r ⌝ }
 {
     let row = m as usize * 12;
     let mut p = at;
     let mut j = 0;
     while j < 8 {
         let c = names[row + (4 + j)];
-        if c == b' ' {
-            return p;
-        }
-        p = text::put(out, p, c);
+        text::put(out, p, c);
+        p += advance(c);
         j += 1;
     }
-    p
+    text::put(out, p, b' ')
 }
 
-// The name of a mnemonic; every name has at least four bytes.
+// The name of a mnemonic and a space; every name has at least four bytes.
 fn put_name(out: &mut [u8], at: usize, m: u16, names: &[u8; 4152]) -> usize
     requires { ⌜ NameTable (now names) ⌝ }
     requires { ⌜ at < 2 ^ 61 ⌝ }
-    ensures { λ r. ⌜ Puts 12 (now (out .entry)) at (codes (nameOf m)) (now (out .exit)) r ⌝ }
+    ensures { λ r. ⌜ Puts 13 (now (out .entry)) at (codes (nameOf m) ++ 32 ∷ []) (now (out .exit)) r ⌝ }
 {
     if 346 <= m {
-        return at;
+        return text::put(out, at, b' ');
     }
     let row = m as usize * 12;
     let p = text::put_word(
@@ -199,6 +207,5 @@ pub fn put_insn(out: &mut [u8], at: usize, i: Insn, names: &[u8; 4152]) -> usize
     ensures { λ r. ⌜ Puts 78 (now (out .entry)) at (insnText i) (now (out .exit)) r ⌝ }
 {
     let p = put_name(out, at, i.mnemonic, names);
-    let q = text::put(out, p, b' ');
-    put_operands(out, q, i)
+    put_operands(out, p, i)
 }

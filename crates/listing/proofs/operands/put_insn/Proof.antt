@@ -1,8 +1,11 @@
 -- `listing::operands::put_insn` meets its contract.
 -- Assumes nothing.
+use mathlib.Core.List.{map}
+use lib.Seq.{append-snoc}
 use borrow.Author.Needs.{needs}
+use Rattle.tables.specs.Names.{codes, nameOf}
 use Rattle.listing.proofs.Sets.{then}
-use Rattle.listing.specs.Operands.{insnText}
+use Rattle.listing.specs.Operands.{operandText, joined, operands, insnText}
 use Rattle.listing.proofs.operands.put_insn.Statement.{statement}
 use Rattle.listing.proofs.operands.put_insn.Tie as tie
 
@@ -13,6 +16,7 @@ put-insn-spec =
     (tie.spec
     (λ c κs. search needs)
     (λ c κs. search needs)
-    (λ c κs. search needs)
     (λ c. search needs)
-    (λ c. then (c .before .before .before .before .before .before .before .before .before .before .put-name .ensures) (then (c .before .before .before .before .before .before .put .ensures) (c .before .before .put-operands .ensures))))
+    (λ c.
+    let i = c .before .before .before .before .before .before .before .before .before .args .i in
+    rw (append-snoc (codes (nameOf (i .mnemonic))) 32 (joined (map operandText (operands i)))) at (then (c .before .before .before .before .before .before .put-name .ensures) (c .before .before .put-operands .ensures))))
