@@ -18,6 +18,11 @@ uint32_t bodlixo_read(uint16_t hw1, uint16_t hw2, uint32_t address, uint64_t rec
    its field stands for a value that no pair has; the bits of a not-a-number stand for a not-a-number. */
 uint32_t bodlixo_write(const uint64_t record[10], uint16_t pair[2]);
 
+/* Lists the pairs of len bytes in out, and puts the listing's length in *length. An out that is shorter than the
+   listing is left untouched, and the answer is 14 with *length 0; 901132 bytes are always enough. Bytes that are no
+   listing's are listed as the one line that refuses them, and the answer is 0. */
+uint32_t bodlixo_list(const uint8_t *input, size_t len, uint8_t *out, size_t out_len, uint64_t *length);
+
 /* Runs the pairs of `len` halfwords, from the pair `start` on, at most `budget` of them, on a file of 32 doublewords.
    `*executed` is always set: the pairs executed, whose effect the file has. After 15 a call from start + *executed
    goes on. */

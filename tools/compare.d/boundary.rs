@@ -7,6 +7,13 @@ use oracle::Record;
 extern "C" {
     fn bodlixo_read(hw1: u16, hw2: u16, address: u32, record: *mut u64) -> u32;
     fn bodlixo_write(record: *const u64, pair: *mut u16) -> u32;
+    fn bodlixo_list(
+        input: *const u8,
+        len: usize,
+        out: *mut u8,
+        out_len: usize,
+        length: *mut u64,
+    ) -> u32;
 }
 
 pub fn read(hw1: u16, hw2: u16, address: u32, record: &mut Record) -> u32 {
@@ -15,4 +22,13 @@ pub fn read(hw1: u16, hw2: u16, address: u32, record: &mut Record) -> u32 {
 
 pub fn write(record: &Record, pair: &mut [u16; 2]) -> u32 {
     unsafe { bodlixo_write(record.as_ptr(), pair.as_mut_ptr()) }
+}
+
+/// The refusal's number, or 0 and the listing's length.
+pub fn list(input: &[u8], out: &mut [u8]) -> (u32, u64) {
+    let mut length = 0;
+    let code = unsafe {
+        bodlixo_list(input.as_ptr(), input.len(), out.as_mut_ptr(), out.len(), &mut length)
+    };
+    (code, length)
 }

@@ -11,6 +11,11 @@ abbrev pub codeOf : {A : Type 0} → Answer A → ℕ
 codeOf (accepted a) = 0
 codeOf (refused n) = n
 
+-- the number that is accepted, or 0
+abbrev pub valueOf : Answer ℕ → ℕ
+valueOf (accepted n) = n
+valueOf (refused n) = 0
+
 -- of a run: 0 when it is done
 abbrev pub endCode : Ending → ℕ
 endCode done = 0

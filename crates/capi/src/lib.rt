@@ -4,12 +4,15 @@ ghost use Rattle.decode.specs.Reading.{reading};
 ghost use lib.ListN.{length};
 ghost use Rattle.machine.specs.Run.{runOf};
 ghost use Rattle.sheet.specs.Translation.{translationOf, writtenOf};
-ghost use Rattle.capi.specs.Codes.{codeOf, endCode, translationCode, translationAt};
 ghost use Rattle.encode.specs.Writing.{writing};
+ghost use Rattle.listing.specs.Answers.{lengthFor, outAfter};
+ghost use Rattle.listing.specs.Listing.{listing};
+ghost use Rattle.capi.specs.Codes.{codeOf, endCode, translationCode, translationAt, valueOf};
 ghost use Rattle.capi.specs.Records.{recordOf};
 ghost use Rattle.capi.specs.Words.{recordAfter, pairAfter};
 use decode::Reading;
 use encode::Writing;
+use listing::Listed;
 use machine::Outcome;
 use sheet::Translation;
 
@@ -90,6 +93,26 @@ pub extern "C" fn bodlixo_translate(sheet: &[u8], out: &mut [u16], at: &mut u64)
         Translation::RefusedAt(f, i) => {
             *at = i;
             insn::refusal_number(f) as u32
+        }
+    }
+}
+
+// Lists the pairs of the input: 0 and the listing's length, or 14 and 0 with out untouched.
+#[no_mangle]
+pub extern "C" fn bodlixo_list(input: &[u8], out: &mut [u8], length: &mut u64) -> u32
+    ensures code { λ r. ⌜ r ≡ codeOf (lengthFor (listing (now (input .entry))) (now (out .entry))) ⌝ }
+    ensures out { λ r. ⌜ now (out .exit) ≡ outAfter (listing (now (input .entry))) (now (out .entry)) ⌝ }
+    ensures length { λ r. ⌜ now (length .exit) ≡ valueOf (lengthFor (listing (now (input .entry))) (now (out .entry))) ⌝ }
+{
+    let answer = listing::list(input, out);
+    match answer {
+        Listed::Length(n) => {
+            *length = n as u64;
+            0
+        }
+        Listed::TooShort => {
+            *length = 0;
+            14
         }
     }
 }

@@ -2,7 +2,8 @@
 -- Assumes nothing.
 use mathlib.Core.Bool.{Bool, true, false}
 use mathlib.Core.List.{List, [], _∷_, _++_, reverse}
-use Prim.Native.Nat.{ℕ, suc}
+use mathlib.Core.Path.{_≡_}
+use Prim.Native.Nat.{ℕ, suc, _+_, _*_, _<_}
 use Prim.Native.Char.{code}
 use Prim.Native.String.{String, slice, [] as nil, _∷_ as cons}
 use lib.ListN.{getD}
@@ -147,6 +148,10 @@ codes (cons c s) = code c ∷ codes s
 -- the byte at place j of a mnemonic's spelling, and a space past its end
 unfoldable pub nameByte : ℕ → ℕ → ℕ
 nameByte m j = getD (codes (nameOf m)) j 32
+
+-- a table of all spellings: that of mnemonic m has the twelve bytes from m * 12 on
+pub record NameTable (t : List ℕ) : Type 0 where
+  pub bytes : (m j : ℕ) → m < 346 → j < 12 → getD t (m * 12 + j) 0 ≡ nameByte m j
 
 -- a pairwise mnemonic, which has no quad form: its spelling begins with vp
 unfoldable pub pairwise : String → Bool

@@ -1,6 +1,6 @@
 // The mnemonics' spellings.
 ghost use mathlib.Core.Path.{_≡_};
-ghost use Rattle.tables.specs.Names.{nameOf, nameByte, pairwise};
+ghost use Rattle.tables.specs.Names.{nameOf, nameByte, NameTable, pairwise};
 
 // Twelve bytes for each mnemonic, four mnemonics to a line: its spelling, filled up with spaces.
 const NAMES: [u8; 4152] = *b"\
@@ -104,6 +104,13 @@ pub fn byte(m: u16, j: u8) -> u8
         return b' ';
     }
     b' '
+}
+
+// All spellings, for a caller that reads many.
+pub fn table() -> [u8; 4152]
+    ensures { λ r. ⌜ NameTable r ⌝ }
+{
+    NAMES
 }
 
 // Bit m % 64 of word m / 64 tells whether mnemonic m is pairwise.

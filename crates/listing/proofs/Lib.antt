@@ -1,0 +1,10 @@
+pub mod Sets
+pub mod Decimal
+pub mod Signs
+pub mod Names
+pub mod Endings
+pub mod Registers
+pub mod Short
+pub mod PairLines
+pub mod Whole
+pub mod Promises

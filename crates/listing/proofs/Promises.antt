@@ -1,0 +1,90 @@
+-- The promises of specs/Promises.antt.
+-- Assumes nothing.
+use mathlib.Core.Path.{_≡_, refl, sym, ap, _∙_}
+use mathlib.Core.Bool.{Bool, true, false}
+use mathlib.Core.List.{List, [], _∷_, _++_, map}
+use Prim.Native.Nat.{ℕ, zero, suc, _+_, _*_, _/_, _≤_}
+use native.Mathlib.Numerals.{add-one}
+use native.Mathlib.Omega.{arith}
+use lib.Ieee.{eq, odd}
+use lib.ListN.{length, length-append}
+use Rattle.laws.specs.Answer.{Answer, accepted, refused}
+use Rattle.laws.specs.Choice.{choose}
+use Rattle.tables.specs.Modimm.{modimm}
+use Rattle.tables.specs.Names.{names, nameOf, numberOf, pairwise, codes}
+use Rattle.tables.specs.Same3.{same3}
+use Rattle.laws.specs.Search.{firstFrom}
+use Rattle.tables.specs.Shift.{shiftRows, shiftCells, shiftClasses, vmovl}
+use Rattle.fields.specs.Registers.{vecOf}
+use Rattle.immediates.specs.Floats.{floatOf}
+use Rattle.immediates.specs.Found.{findFloat}
+use Rattle.immediates.specs.Modified.{constantAt, element, operandIn, needsNonzero}
+use Rattle.immediates.specs.Shifts.{isEscape, codeOf, rightEnd, leftStart}
+use Rattle.immediates.specs.Signed.{signedOf}
+use Rattle.decode.specs.Operands.{two, three}
+use Rattle.decode.specs.Same3.{same3Of, same3Reading}
+use Rattle.decode.specs.Shift.{forbidden, columnOf, shiftOf, shiftReading}
+use Rattle.decode.specs.Modimm.{modimmOf, modimmReading}
+use Rattle.decode.specs.Reading.{familyOf, inFamily, reading}
+use Rattle.listing.specs.declared.Listed.{Listed}
+use Rattle.listing.specs.declared.Listed.the-variants.{Length, TooShort}
+use Rattle.listing.specs.Answers.{listedAnswer}
+use Rattle.listing.specs.Listing.{halfwordAt, readingText, lineText, pairLine, below, isListable, lines, text}
+use Rattle.listing.specs.Promises.{ListedApart, NeverLonger, Sample}
+use Rattle.listing.specs.Operands.{overText, operandText, joined, insnText}
+use Rattle.listing.specs.Text.{digits, decimal, minus, signed, hex4}
+use Rattle.listing.proofs.Decimal.{within}
+use Rattle.listing.proofs.PairLines.{one-more}
+use Rattle.listing.proofs.Short.{line-short}
+use Rattle.listing.proofs.Whole.{listable}
+
+-- the case of an answer, of which `listedAnswer` is the inverse
+abbrev named : Answer ℕ → Listed
+named (accepted n) = Length n
+named (refused n) = TooShort
+
+back : (x : Listed) → named (listedAnswer x) ≡ x
+back (Length n) = refl
+back TooShort = refl
+
+pub listedApart : ListedApart
+listedApart x y e = sym (back x) ∙ ap named e ∙ back y
+
+pair-short : (bytes : List ℕ) (i : ℕ) → i ≤ 16384 → length (pairLine bytes i ++ 10 ∷ []) ≤ 55
+unfolding pairLine
+pair-short bytes i h =
+    let hw1 = halfwordAt bytes (4 * i) in
+    let hw2 = halfwordAt bytes (4 * i + 2) in
+    omega (arith, length-append (lineText i hw1 hw2) (10 ∷ []), line-short i hw1 hw2 (omega arith))
+
+pairs-short : (bytes : List ℕ) (n : ℕ) → n ≤ 16384 → length (text (map (pairLine bytes) (below n))) ≤ 55 * n
+unfolding below text
+pairs-short bytes zero h = omega arith
+pairs-short bytes (suc n) h =
+    let e = rw add-one at (one-more bytes n) in
+    let before = text (map (pairLine bytes) (below n)) in
+    omega (arith, ap length e, length-append before (pairLine bytes n ++ 10 ∷ []), pairs-short bytes n (omega arith), pair-short bytes n (omega arith))
+
+pub neverLonger : NeverLonger
+unfolding lines text codes
+neverLonger bytes = go (isListable (length bytes)) refl
+  where
+    go : (b : Bool) → isListable (length bytes) ≡ b
+        → length (text (choose b ((codes "pairs " ++ decimal (length bytes / 4)) ∷ map (pairLine bytes) (below (length bytes / 4))) (codes "refused 11" ∷ []))) ≤ 901132
+    go true e =
+        let n = length bytes / 4 in
+        let h = listable (length bytes) e in
+        let rest = text (map (pairLine bytes) (below n)) in
+        omega (
+          arith,
+          h,
+          within 4 n (omega (arith, h)),
+          pairs-short bytes n (omega (arith, h)),
+          length-append (codes "pairs " ++ decimal n) (10 ∷ rest),
+          length-append (codes "pairs ") (decimal n),
+        )
+    go false e = omega arith
+
+pub sample : Sample
+unfolding digits decimal minus signed hex4 overText operandText joined insnText readingText lineText pairLine below isListable lines text codes findFloat firstFrom eq reading inFamily familyOf same3Of same3Reading shiftOf shiftReading modimmOf modimmReading two three same3 shiftRows shiftCells shiftClasses forbidden columnOf vmovl modimm names nameOf numberOf pairwise vecOf isEscape codeOf rightEnd leftStart constantAt element operandIn needsNonzero signedOf floatOf odd
+sample = refl

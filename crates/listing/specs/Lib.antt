@@ -1,0 +1,6 @@
+pub mod Text
+pub mod Operands
+pub mod Listing
+pub mod Answers
+pub mod Puts
+pub mod Promises

@@ -1,0 +1,43 @@
+-- A record as text: its name, and its operands joined by commas.
+-- Assumes nothing.
+use mathlib.Core.List.{List, [], _∷_, _++_, map}
+use Prim.Native.Nat.{ℕ}
+use lib.Dec.{leb}
+use lib.ListN.{take}
+use Rattle.insn.specs.declared.Insn.{Insn}
+use Rattle.insn.specs.declared.Operand.{Operand}
+use Rattle.insn.specs.declared.Operand.the-variants.{D, Q, S, Imm, Float, Other, Absent}
+use Rattle.tables.specs.Names.{codes, nameOf}
+use Rattle.laws.specs.Search.{Found, at, none}
+use Rattle.immediates.specs.Floats.{kOf}
+use Rattle.immediates.specs.Found.{findFloat}
+use Rattle.listing.specs.Text.{decimal, minus, signed}
+
+-- the float of immediate b, as k over 128; those from 128 on are negative
+unfoldable pub overText : Found → List ℕ
+overText (at b) = minus (leb 128 b) ++ decimal (kOf b) ++ codes "/128"
+overText none = []
+
+-- a register by its letter and number, a number after #; no reading gives another kind
+unfoldable pub operandText : Operand → List ℕ
+operandText (D n) = 100 ∷ decimal n
+operandText (Q n) = 113 ∷ decimal n
+operandText (S n) = 115 ∷ decimal n
+operandText (Imm v) = 35 ∷ signed v
+operandText (Float x) = 35 ∷ overText (findFloat x)
+operandText Other = []
+operandText Absent = []
+
+-- texts joined by commas
+unfoldable pub joined : List (List ℕ) → List ℕ
+joined [] = []
+joined (x ∷ []) = x
+joined (x ∷ y ∷ rest) = x ++ 44 ∷ joined (y ∷ rest)
+
+-- the places within the count
+abbrev pub operands : Insn → List Operand
+operands i = take (i .count) (i .first ∷ i .second ∷ i .third ∷ [])
+
+-- the name, a space, the operands
+unfoldable pub insnText : Insn → List ℕ
+insnText i = codes (nameOf (i .mnemonic)) ++ 32 ∷ joined (map operandText (operands i))

@@ -1,0 +1,122 @@
+// Lists the replayed pairs, which standard input has as bytes, and inputs at the bounds of what is listed.
+// tools/relist makes standard input and what is due, from the original's answers.
+ghost use mathlib.Core.Path.{_≡_};
+ghost use lib.ListN.{length};
+use libc::STDIN_FILENO;
+use libc::STDOUT_FILENO;
+use listing::ENOUGH;
+use listing::Listed;
+
+fn put(text: &[u8]) {
+    io::write_all(STDOUT_FILENO, text);
+}
+
+fn put_count(what: &[u8], n: u64) {
+    put(what);
+    io::print_decimal(STDOUT_FILENO, n);
+}
+
+fn input_buffer() -> [u8; 65540]
+    ensures { λ r. ⌜ 65540 ≡ length r ⌝ }
+{
+    [0; 65540]
+}
+
+fn output_buffer() -> [u8; ENOUGH]
+    ensures { λ r. ⌜ 901132 ≡ length r ⌝ }
+{
+    [0; ENOUGH]
+}
+
+// The pairs over and over.
+fn repeated(pairs: &[u8; 12160]) -> [u8; 65540]
+    ensures { λ r. ⌜ 65540 ≡ length r ⌝ }
+{
+    let mut bytes = input_buffer();
+    let mut i: usize = 0;
+    while i < 65540 {
+        bytes[i] = pairs[i % 12160];
+        i += 1;
+    }
+    bytes
+}
+
+// The listing itself.
+fn show(input: &[u8], out: &mut [u8]) {
+    match listing::list(input, out) {
+        Listed::Length(k) => put(&out[..k]),
+        Listed::TooShort => put(b"too short\n"),
+    }
+}
+
+fn mixed(sum: u64, b: u8) -> u64 {
+    (sum % 0x1_0000_0000 * 31 + b as u64) % 0x1_0000_0000
+}
+
+// Bytes, lines and a checksum of a text.
+fn weigh(text: &[u8]) {
+    let mut lines: u64 = 0;
+    let mut sum: u64 = 0;
+    let mut i: usize = 0;
+    while i < text.len() {
+        let b = text[i];
+        if b == 10 {
+            lines = std::num::wrapping_add_u64(lines, 1);
+        }
+        sum = mixed(sum, b);
+        i += 1;
+    }
+    put_count(b"bytes ", text.len() as u64);
+    put_count(b", lines ", lines);
+    put_count(b", sum ", sum);
+    put(b"\n");
+}
+
+// What a long listing weighs.
+fn show_weight(input: &[u8], out: &mut [u8]) {
+    match listing::list(input, out) {
+        Listed::Length(k) => weigh(&out[..k]),
+        Listed::TooShort => put(b"too short\n"),
+    }
+}
+
+// A listing in a buffer that may be too short for it, and what the buffer then holds.
+fn show_buffer(input: &[u8], out: &mut [u8]) {
+    match listing::list(input, out) {
+        Listed::Length(k) => put_count(b"length ", k as u64),
+        Listed::TooShort => put(b"too short"),
+    }
+    put(b": ");
+    put(out);
+    put(b"\n");
+}
+
+// Buffers of a listing's length, one less and four more.
+fn show_buffers(three: &[u8]) {
+    let mut exact = [b'.'; 8];
+    show_buffer(&three[..0], &mut exact);
+    let mut less = [b'.'; 7];
+    show_buffer(&three[..0], &mut less);
+    let mut more = [b'.'; 12];
+    show_buffer(&three[..0], &mut more);
+    let mut refused = [b'.'; 11];
+    show_buffer(three, &mut refused);
+    let mut short = [b'.'; 10];
+    show_buffer(three, &mut short);
+}
+
+fn main() {
+    let mut pairs = [0u8; 12160];
+    io::read_full(STDIN_FILENO, &mut pairs);
+    let bytes = repeated(&pairs);
+    let mut out = output_buffer();
+    show(&pairs, &mut out);
+    show(&bytes[..0], &mut out);
+    show(&bytes[..1], &mut out);
+    show(&bytes[..2], &mut out);
+    show(&bytes[..3], &mut out);
+    show(&bytes[..5], &mut out);
+    show_weight(&bytes[..65536], &mut out);
+    show_weight(&bytes, &mut out);
+    show_buffers(&bytes[..3]);
+}
