@@ -22,7 +22,7 @@ unfoldable pub readingText : Answer Insn → List ℕ
 readingText (accepted i) = insnText i
 readingText (refused n) = codes "refused " ++ decimal n
 
--- a pair's line: its index, both halfwords, its reading
+-- a pair's line: its index, both halfwords, its reading, and a space (32) between them
 unfoldable pub lineText : ℕ → ℕ → ℕ → List ℕ
 lineText i hw1 hw2 = decimal i ++ 32 ∷ hex4 hw1 ++ 32 ∷ hex4 hw2 ++ 32 ∷ readingText (reading hw1 hw2 0)
 
@@ -51,5 +51,6 @@ unfoldable pub text : List (List ℕ) → List ℕ
 text [] = []
 text (l ∷ ls) = l ++ 10 ∷ text ls
 
+-- the whole listing
 abbrev pub listing : List ℕ → List ℕ
 listing bytes = text (lines bytes)

@@ -20,11 +20,11 @@ overText none = []
 
 -- a register by its letter and number, a number after #; no reading gives another kind
 unfoldable pub operandText : Operand → List ℕ
-operandText (D n) = 100 ∷ decimal n
-operandText (Q n) = 113 ∷ decimal n
-operandText (S n) = 115 ∷ decimal n
-operandText (Imm v) = 35 ∷ signed v
-operandText (Float x) = 35 ∷ overText (findFloat x)
+operandText (D n) = 100 ∷ decimal n  -- d
+operandText (Q n) = 113 ∷ decimal n  -- q
+operandText (S n) = 115 ∷ decimal n  -- s
+operandText (Imm v) = 35 ∷ signed v  -- #
+operandText (Float x) = 35 ∷ overText (findFloat x)  -- #
 operandText Other = []
 operandText Absent = []
 
@@ -32,7 +32,7 @@ operandText Absent = []
 unfoldable pub joined : List (List ℕ) → List ℕ
 joined [] = []
 joined (x ∷ []) = x
-joined (x ∷ y ∷ rest) = x ++ 44 ∷ joined (y ∷ rest)
+joined (x ∷ y ∷ rest) = x ++ 44 ∷ joined (y ∷ rest)  -- ,
 
 -- the places within the count
 abbrev pub operands : Insn → List Operand

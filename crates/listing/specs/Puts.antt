@@ -21,6 +21,7 @@ pub record Puts (b : ℕ) (before : List ℕ) (i : ℕ) (text : List ℕ) (after
 abbrev pub most : ℕ → ℕ
 most n = choose (isListable n) (12 + 55 * (n / 4)) 11
 
+-- a D, Q or S register
 abbrev pub isRegister : Operand → Bool
 isRegister (D n) = true
 isRegister (Q n) = true
@@ -30,7 +31,7 @@ isRegister (Float x) = false
 isRegister Other = false
 isRegister Absent = false
 
--- the letter of a register, and its number; 0 for what is none
+-- the letter of a register; 0 for what is none
 abbrev pub letterOf : Operand → ℕ
 letterOf (D n) = 100
 letterOf (Q n) = 113
@@ -40,6 +41,7 @@ letterOf (Float x) = 0
 letterOf Other = 0
 letterOf Absent = 0
 
+-- the number of a register; 0 for what is none
 abbrev pub numberOf : Operand → ℕ
 numberOf (D n) = n
 numberOf (Q n) = n

@@ -7,7 +7,7 @@ use lib.Dec.{ltb}
 use lib.IntN.{ℤ, pos, negsuc}
 use Rattle.laws.specs.Choice.{choose}
 
--- the decimal digits of n, with no zero in front and none of 0; f is at least as many as there are
+-- the decimal digits of n as bytes (48 is 0), with no zero in front and none of 0; f is at least as many as there are
 unfoldable pub digits : ℕ → ℕ → List ℕ
 digits zero n = []
 digits (suc f) zero = []
@@ -19,15 +19,15 @@ decimal n = digits n (n / 10) ++ ((48 + n % 10) ∷ [])
 
 -- a minus for what is negative
 unfoldable pub minus : Bool → List ℕ
-minus true = 45 ∷ []
+minus true = 45 ∷ []  -- -
 minus false = []
 
 -- a whole number, with a sign only when it is negative; `negsuc n` is -1 - n
 unfoldable pub signed : ℤ → List ℕ
 signed (pos n) = decimal n
-signed (negsuc n) = 45 ∷ decimal (suc n)
+signed (negsuc n) = 45 ∷ decimal (suc n)  -- -
 
--- a hexadecimal digit, in lower case
+-- a hexadecimal digit, in lower case: 48 is 0, and 87 + 10 is a
 abbrev pub hexDigit : ℕ → ℕ
 hexDigit d = choose (ltb d 10) (48 + d) (87 + d)
 
