@@ -18,7 +18,8 @@ pub fn put_refused(k: u64, n: u64) {
     put_count(b": ", n);
 }
 
-fn digit(c: u8) -> u64
+// The value of a hexadecimal digit.
+pub fn digit(c: u8) -> u64
     ensures { λ r. ⌜ r < 16 ⌝ }
 {
     if c < b'a' {

@@ -1,12 +1,15 @@
 // Replays the sum sheets on standard input, whose answers tools/sheets worked out with a model of document 01.
 // A case is two lines: 1105 bytes with what is handed in and what comes back, then the sheet in hexadecimal.
-ghost use Prim.Native.Nat.{_<_};
 use insn::Refusal;
 use libc::STDIN_FILENO;
-use libc::STDOUT_FILENO;
 use machine::Outcome;
 use machine::run::Ran;
 use machine::run::run;
+use replay::digit;
+use replay::field;
+use replay::put;
+use replay::put_count;
+use replay::put_refused;
 use sheet::Evaluation;
 use sheet::Translation;
 
@@ -25,38 +28,6 @@ struct Tally {
     steps: u64,
     pairs: u64,
     wrong: u64,
-}
-
-fn put(text: &[u8]) {
-    io::write_all(STDOUT_FILENO, text);
-}
-
-fn put_count(what: &[u8], n: u64) {
-    put(what);
-    io::print_decimal(STDOUT_FILENO, n);
-    put(b"\n");
-}
-
-fn digit(c: u8) -> u64
-    ensures { λ r. ⌜ r < 16 ⌝ }
-{
-    if b'0' <= c && c <= b'9' {
-        return (c % 16) as u64;
-    }
-    ((c % 16 + 9) % 16) as u64
-}
-
-// The n hexadecimal digits from a place on; past the line there are none.
-fn field(line: &[u8; 1105], at: usize, n: usize) -> u64 {
-    let mut value: u64 = 0;
-    let mut i: usize = 0;
-    while i < 1105 {
-        if at <= i && i - at < n {
-            value = value % 0x1000_0000_0000_0000 * 16 + digit(line[i]);
-        }
-        i += 1;
-    }
-    value
 }
 
 // The 32 doublewords from a place on.
@@ -238,11 +209,11 @@ fn main() {
     let t = replayed();
     put_count(b"cases ", t.cases);
     put_count(b"done ", t.answers[0]);
-    put_count(b"refused 11: ", t.answers[11]);
-    put_count(b"refused 12: ", t.answers[12]);
-    put_count(b"refused 13: ", t.answers[13]);
-    put_count(b"refused 14: ", t.answers[14]);
-    put_count(b"refused 15: ", t.answers[15]);
+    put_refused(11, t.answers[11]);
+    put_refused(12, t.answers[12]);
+    put_refused(13, t.answers[13]);
+    put_refused(14, t.answers[14]);
+    put_refused(15, t.answers[15]);
     put_count(b"steps of the sheets done ", t.steps);
     put_count(b"pairs executed ", t.pairs);
     put_count(b"not as the model ", t.wrong);
