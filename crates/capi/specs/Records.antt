@@ -1,6 +1,6 @@
 -- The record that ten words stand for, whatever they are.
 -- Assumes nothing.
-use mathlib.Core.List.{List, []}
+use mathlib.Core.List.{List}
 use Prim.Native.Nat.{ℕ, _-_, _%_, _^_}
 use lib.Dec.{eqb, ltb}
 use lib.Ieee.{ofBits, binary64}

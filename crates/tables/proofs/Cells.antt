@@ -1,17 +1,16 @@
 -- A mnemonic's home has its name, and a cell's name has that cell for its home: antt computes both, at each mnemonic and at each cell.
 -- Assumes nothing.
-use mathlib.Core.Path.{_≡_, refl, sym, ap, _∙_, subst}
+use mathlib.Core.Path.{_≡_, refl, sym, _∙_, subst}
 use mathlib.Core.Bool.{Bool, true, false}
 use mathlib.Core.List.{List, [], _∷_}
-use Prim.Native.Nat.{ℕ, _+_, _*_, _/_, _%_, _<_, _≤_}
+use Prim.Native.Nat.{ℕ, _+_, _*_, _/_, _%_, _<_}
 use Prim.Native.String.{String}
-use native.Mathlib.Omega.{arith}
 use lib.Dec.{T, ltb}
 use lib.ListN.{getD}
 use lib.Text.{eqt, eqt→eq}
 use borrow.Author.Tests.{ltb-true, ltb-false}
 use Rattle.laws.specs.Choice.{choose}
-use Rattle.laws.proofs.Range.{values, agree, agree2}
+use Rattle.laws.proofs.Range.{values, agree}
 use Rattle.tables.specs.Cells.{cellAt}
 use Rattle.tables.specs.Same3.{same3}
 use Rattle.tables.specs.Shift.{shiftRows, shiftCells, shiftClasses, vmovl}

@@ -1,6 +1,6 @@
 -- The promises of specs/Promises.antt: antt computes each.
 -- Assumes nothing.
-use mathlib.Core.Path.{_≡_, refl}
+use mathlib.Core.Path.{refl}
 use Prim.Native.Nat.{ℕ}
 use Rattle.laws.proofs.Range.{values, agree}
 use Rattle.tables.specs.Same3.{same3}

@@ -1,7 +1,7 @@
 -- How many cells each row of each table has, and that a cell past the table has no mnemonic: antt computes the first.
 -- Assumes nothing.
 use mathlib.Core.Path.{_≡_, refl, sym, ap, _∙_}
-use mathlib.Core.List.{List, [], map}
+use mathlib.Core.List.{List, []}
 use Prim.Native.Nat.{ℕ, _+_, _*_, _/_, _%_, _<_, _≤_}
 use Prim.Native.String.{String}
 use lib.Dec.{eqb}

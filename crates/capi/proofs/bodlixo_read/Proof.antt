@@ -1,7 +1,7 @@
 -- `capi::bodlixo_read` meets its contract.
 -- Assumes nothing.
-use borrow.Author.Needs.{needs}
 use mathlib.Core.Path.{sym, ap, _∙_}
+use borrow.Author.Needs.{needs}
 use Rattle.decode.specs.Answers.{readingAnswer}
 use Rattle.capi.proofs.bodlixo_read.Statement.{statement}
 use Rattle.capi.proofs.bodlixo_read.Tie as tie

@@ -2,9 +2,9 @@
 -- Assumes nothing.
 use mathlib.Core.Path.{sym, ap, _∙_}
 use borrow.Author.Needs.{needs}
-use Rattle.machine.specs.declared.Outcome.{Outcome}
 use Rattle.machine.specs.Answers.{endingOf}
 use Rattle.machine.specs.Run.{Run}
+use Rattle.machine.specs.declared.Outcome.{Outcome}
 use Rattle.capi.specs.Codes.{endCode}
 use Rattle.capi.proofs.bodlixo_run.Statement.{statement}
 use Rattle.capi.proofs.bodlixo_run.Tie as tie

@@ -1,8 +1,8 @@
 -- `machine_test::main` is safe and ends.
 -- Assumes nothing.
+use mathlib.Core.Path.{_≡_}
 use Prim.Native.Nat.{_≤_, _-_}
 use lib.ListN.{length}
-use mathlib.Core.Path.{_≡_}
 use borrow.Author.Needs.{needs}
 use Rattle.machine_test.proofs.main.Statement.{statement}
 use Rattle.machine_test.proofs.main.Tie as tie

@@ -1,8 +1,8 @@
 -- `machine_test::skip` is safe and ends.
 -- Assumes nothing.
+use mathlib.Core.Path.{_≡_}
 use Prim.Native.Nat.{_≤_, _-_}
 use lib.ListN.{length}
-use mathlib.Core.Path.{_≡_}
 use borrow.Author.Needs.{needs}
 use Rattle.machine_test.proofs.skip.Statement.{statement}
 use Rattle.machine_test.proofs.skip.Tie as tie

@@ -1,8 +1,8 @@
 -- `step_bench::code_of` is safe and ends.
 -- Assumes nothing.
+use mathlib.Core.Path.{_≡_}
 use Prim.Native.Nat.{_≤_, _-_}
 use lib.ListN.{length}
-use mathlib.Core.Path.{_≡_}
 use borrow.Author.Needs.{needs}
 use Rattle.step_bench.proofs.code_of.Statement.{statement}
 use Rattle.step_bench.proofs.code_of.Tie as tie

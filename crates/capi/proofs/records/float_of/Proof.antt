@@ -1,8 +1,7 @@
 -- `capi::records::float_of` meets its contract.
 -- Assumes nothing.
-use borrow.Author.Needs.{needs}
-use mathlib.Core.Path.{_∙_}
 use lib.Ieee.{div, ofBits}
+use borrow.Author.Needs.{needs}
 use Rattle.capi.proofs.Floats.{nan-of, number-of}
 use Rattle.capi.proofs.records.float_of.Statement.{statement}
 use Rattle.capi.proofs.records.float_of.Tie as tie

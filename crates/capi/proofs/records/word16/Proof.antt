@@ -1,7 +1,7 @@
 -- `capi::records::word16` meets its contract.
 -- Assumes nothing.
-use borrow.Author.Tests.{lt-ltb, le-ltb}
 use borrow.Author.Needs.{needs}
+use borrow.Author.Tests.{lt-ltb, le-ltb}
 use Rattle.capi.proofs.records.word16.Statement.{statement}
 use Rattle.capi.proofs.records.word16.Tie as tie
 

@@ -1,7 +1,7 @@
 -- `capi::words::float_word` meets its contract.
 -- Assumes nothing.
-use borrow.Author.Needs.{needs}
 use lib.Ieee.{toBits}
+use borrow.Author.Needs.{needs}
 use Rattle.capi.proofs.Floats.{is-number, not-a-number}
 use Rattle.capi.proofs.words.float_word.Statement.{statement}
 use Rattle.capi.proofs.words.float_word.Tie as tie

@@ -1,9 +1,9 @@
 -- `capi::words::operand_words` meets its contract.
 -- Assumes nothing.
 use mathlib.Core.Path.{refl, ap, _∙_}
-use borrow.Author.Needs.{needs}
-use mir.Syntax.{w64}
 use mir.Facts.{toZ-ofZ}
+use mir.Syntax.{w64}
+use borrow.Author.Needs.{needs}
 use Rattle.immediates.specs.Signed.{patternOf}
 use Rattle.capi.proofs.words.operand_words.Statement.{statement}
 use Rattle.capi.proofs.words.operand_words.Tie as tie

@@ -5,9 +5,9 @@ use mathlib.Core.Path.{refl}
 use native.Mathlib.Omega.{arith}
 use lib.ListN.{length-append}
 use borrow.Author.Needs.{needs}
+use Rattle.listing.specs.Listing.{lineText}
 use Rattle.listing.proofs.Sets.{then, respell}
 use Rattle.listing.proofs.Short.{line-short}
-use Rattle.listing.specs.Listing.{lineText}
 use Rattle.listing.proofs.lines.put_line.Statement.{statement}
 use Rattle.listing.proofs.lines.put_line.Tie as tie
 

@@ -6,10 +6,10 @@ use Prim.Native.Nat.{_-_, _*_, _/_, _≤_}
 use native.Mathlib.Omega.{arith}
 use lib.ListN.{length}
 use borrow.Author.Needs.{needs}
-use Rattle.listing.proofs.PairLines.{one-more}
-use Rattle.listing.proofs.Sets.{then, nothing, widen}
 use Rattle.listing.specs.Listing.{pairLine, below, text}
 use Rattle.listing.specs.Puts.{Puts}
+use Rattle.listing.proofs.PairLines.{one-more}
+use Rattle.listing.proofs.Sets.{then, nothing, widen}
 use Rattle.listing.proofs.lines.put_lines.Statement.{statement}
 use Rattle.listing.proofs.lines.put_lines.Tie as tie
 

@@ -4,9 +4,9 @@ use mathlib.Core.Path.{sym, _∙_}
 use native.Mathlib.Omega.{arith}
 use borrow.Author.Needs.{needs}
 use Rattle.tables.specs.Names.{codes}
+use Rattle.listing.specs.Listing.{lines, text}
 use Rattle.listing.proofs.Sets.{then, widen}
 use Rattle.listing.proofs.Whole.{listable}
-use Rattle.listing.specs.Listing.{lines, text}
 use Rattle.listing.proofs.lines.put_listing.Statement.{statement}
 use Rattle.listing.proofs.lines.put_listing.Tie as tie
 

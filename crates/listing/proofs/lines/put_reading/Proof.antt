@@ -3,8 +3,8 @@
 use native.Mathlib.Omega.{arith}
 use borrow.Author.Needs.{needs}
 use Rattle.tables.specs.Names.{codes}
-use Rattle.listing.proofs.Sets.{then, widen}
 use Rattle.listing.specs.Listing.{readingText}
+use Rattle.listing.proofs.Sets.{then, widen}
 use Rattle.listing.proofs.lines.put_reading.Statement.{statement}
 use Rattle.listing.proofs.lines.put_reading.Tie as tie
 

@@ -4,8 +4,8 @@ use mathlib.Core.List.{map}
 use lib.Seq.{append-snoc}
 use borrow.Author.Needs.{needs}
 use Rattle.tables.specs.Names.{codes, nameOf}
-use Rattle.listing.proofs.Sets.{then}
 use Rattle.listing.specs.Operands.{operandText, joined, operands, insnText}
+use Rattle.listing.proofs.Sets.{then}
 use Rattle.listing.proofs.operands.put_insn.Statement.{statement}
 use Rattle.listing.proofs.operands.put_insn.Tie as tie
 

@@ -4,8 +4,8 @@ use mathlib.Core.List.{[], _∷_}
 use native.Mathlib.Omega.{arith}
 use lib.Seq.{take-all}
 use borrow.Author.Needs.{needs}
-use Rattle.listing.proofs.Sets.{then, nothing, widen}
 use Rattle.listing.specs.Operands.{joined}
+use Rattle.listing.proofs.Sets.{then, nothing, widen}
 use Rattle.listing.proofs.operands.put_operands.Statement.{statement}
 use Rattle.listing.proofs.operands.put_operands.Tie as tie
 

@@ -5,9 +5,9 @@ use borrow.Author.Needs.{needs}
 use Rattle.tables.specs.Names.{codes}
 use Rattle.immediates.specs.Answers.{floatFoundAnswer}
 use Rattle.immediates.specs.Found.{findFloat}
+use Rattle.listing.specs.Operands.{overText}
 use Rattle.listing.proofs.Sets.{then, nothing, respell}
 use Rattle.listing.proofs.Short.{over-short}
-use Rattle.listing.specs.Operands.{overText}
 use Rattle.listing.proofs.operands.put_over.Statement.{statement}
 use Rattle.listing.proofs.operands.put_over.Tie as tie
 

@@ -5,9 +5,9 @@ use native.Mathlib.Omega.{arith}
 use mir.Facts.{toZ-ofZ}
 use mir.Syntax.{w64}
 use borrow.Author.Needs.{needs}
+use Rattle.listing.specs.Operands.{operandText}
 use Rattle.listing.proofs.Registers.{no-register}
 use Rattle.listing.proofs.Sets.{then, nothing, widen}
-use Rattle.listing.specs.Operands.{operandText}
 use Rattle.listing.proofs.operands.put_value.Statement.{statement}
 use Rattle.listing.proofs.operands.put_value.Tie as tie
 

@@ -6,15 +6,15 @@ use native.Mathlib.Omega.{arith}
 use borrow.Author.Needs.{needs}
 use borrow.Fn.Kinds.{In}
 use borrow.Fn.PlainCycle.{Measures, is, falls, and}
-use Rattle.listing.proofs.Sets.{then, widen, respell}
 use Rattle.listing.proofs.Decimal.{decimal-myriad, twenty}
-use Rattle.listing.proofs.text.put_decimal.Reads as reads
-use Rattle.listing.proofs.text.put_decimal.Kinds as kinds
+use Rattle.listing.proofs.Sets.{then, widen, respell}
 use Rattle.listing.proofs.text.+put_decimal.Lts-put_decimal as lts
+use Rattle.listing.proofs.text.+put_decimal.Tie.{close}
+use Rattle.listing.proofs.text.put_decimal.Kinds as kinds
+use Rattle.listing.proofs.text.put_decimal.Reads as reads
 use Rattle.listing.proofs.text.put_five.Reads as five
 use Rattle.listing.proofs.text.put_four.Reads as four
 use Rattle.listing.proofs.text.+put_decimal.{statement}
-use Rattle.listing.proofs.text.+put_decimal.Tie.{close}
 
 abbrev μ : Measures 1 kinds.ps ℕ
 μ κs a = a .1 .1 .0

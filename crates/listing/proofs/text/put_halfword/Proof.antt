@@ -1,8 +1,8 @@
 -- `listing::text::put_halfword` meets its contract.
 -- Assumes nothing.
 use borrow.Author.Needs.{needs}
-use Rattle.listing.proofs.Sets.{then}
 use Rattle.listing.specs.Text.{hex4}
+use Rattle.listing.proofs.Sets.{then}
 use Rattle.listing.proofs.text.put_halfword.Statement.{statement}
 use Rattle.listing.proofs.text.put_halfword.Tie as tie
 

@@ -1,8 +1,8 @@
 -- `listing::text::put_minus` meets its contract.
 -- Assumes nothing.
 use borrow.Author.Needs.{needs}
-use Rattle.listing.proofs.Sets.{nothing}
 use Rattle.listing.specs.Text.{minus}
+use Rattle.listing.proofs.Sets.{nothing}
 use Rattle.listing.proofs.text.put_minus.Statement.{statement}
 use Rattle.listing.proofs.text.put_minus.Tie as tie
 

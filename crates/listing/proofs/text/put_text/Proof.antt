@@ -5,8 +5,8 @@ use Prim.Native.Nat.{_-_, _≤_}
 use native.Mathlib.Omega.{arith}
 use lib.ListN.{length, take}
 use borrow.Author.Needs.{needs}
-use Rattle.listing.proofs.Sets.{nothing, copied, all-copied}
 use Rattle.listing.specs.Puts.{Puts}
+use Rattle.listing.proofs.Sets.{nothing, copied, all-copied}
 use Rattle.listing.proofs.text.put_text.Statement.{statement}
 use Rattle.listing.proofs.text.put_text.Tie as tie
 

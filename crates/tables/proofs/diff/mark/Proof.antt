@@ -1,10 +1,10 @@
 -- `tables::diff::mark` meets its contract: the array is the numbers of the table's column.
 -- Assumes nothing.
 use mathlib.Core.Path.{sym, _∙_}
-use borrow.Author.Needs.{needs}
 use lib.ListN.{List·getD-eq-default}
-use Rattle.insn.specs.declared.Mark.the-variants.{T1}
+use borrow.Author.Needs.{needs}
 use Rattle.laws.proofs.Tables.{mapped}
+use Rattle.insn.specs.declared.Mark.the-variants.{T1}
 use Rattle.tables.specs.Diff.{diffRows, diffMarks}
 use Rattle.tables.proofs.Codes.{markCode, mark-of, mark-else}
 use Rattle.tables.proofs.diff.mark.Statement.{statement}

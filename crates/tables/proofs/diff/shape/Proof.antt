@@ -1,11 +1,11 @@
 -- `tables::diff::shape` meets its contract: the array is the numbers of the table's column.
 -- Assumes nothing.
 use mathlib.Core.Path.{sym, _∙_}
-use borrow.Author.Needs.{needs}
 use lib.ListN.{List·getD-eq-default}
-use Rattle.tables.specs.declared.DiffShape.the-variants.{Long}
+use borrow.Author.Needs.{needs}
 use Rattle.laws.proofs.Tables.{mapped}
 use Rattle.tables.specs.Diff.{diffRows, diffShapes}
+use Rattle.tables.specs.declared.DiffShape.the-variants.{Long}
 use Rattle.tables.proofs.Codes.{shapeCode, shape-of, shape-else}
 use Rattle.tables.proofs.diff.shape.Statement.{statement}
 use Rattle.tables.proofs.diff.shape.Tie as tie

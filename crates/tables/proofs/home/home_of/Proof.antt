@@ -3,12 +3,12 @@
 use native.Mathlib.Omega.{arith}
 use borrow.Author.Needs.{needs}
 use Rattle.laws.proofs.Range.{values}
+use Rattle.tables.specs.Diff.{diffRows, diffCells}
+use Rattle.tables.specs.Home.{placeIn, otherHome, homeOf}
+use Rattle.tables.specs.Modimm.{modimm}
+use Rattle.tables.specs.Names.{flat, names, nameOf}
 use Rattle.tables.specs.Same3.{same3}
 use Rattle.tables.specs.Shift.{shiftRows, shiftCells, vmovl}
-use Rattle.tables.specs.Modimm.{modimm}
-use Rattle.tables.specs.Diff.{diffRows, diffCells}
-use Rattle.tables.specs.Names.{flat, names, nameOf}
-use Rattle.tables.specs.Home.{placeIn, otherHome, homeOf}
 use Rattle.tables.proofs.Homes.{either, shift-homes, diff-homes, vmovl-homes, modimm-homes, vmov-home, no-home}
 use Rattle.tables.proofs.home.home_of.Statement.{statement}
 use Rattle.tables.proofs.home.home_of.Tie as tie

@@ -2,12 +2,12 @@
 -- Assumes nothing.
 use borrow.Author.Needs.{needs}
 use Rattle.laws.proofs.Range.{values}
+use Rattle.tables.specs.Diff.{diffRows, diffCells}
+use Rattle.tables.specs.Home.{placeIn, otherHome, homeOf}
+use Rattle.tables.specs.Modimm.{modimm}
+use Rattle.tables.specs.Names.{flat, names, nameOf}
 use Rattle.tables.specs.Same3.{same3}
 use Rattle.tables.specs.Shift.{shiftRows, shiftCells, vmovl}
-use Rattle.tables.specs.Modimm.{modimm}
-use Rattle.tables.specs.Diff.{diffRows, diffCells}
-use Rattle.tables.specs.Names.{flat, names, nameOf}
-use Rattle.tables.specs.Home.{placeIn, otherHome, homeOf}
 use Rattle.tables.proofs.Homes.{same3-homes}
 use Rattle.tables.proofs.home.same3_home.Statement.{statement}
 use Rattle.tables.proofs.home.same3_home.Tie as tie

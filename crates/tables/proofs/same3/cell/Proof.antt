@@ -5,8 +5,8 @@ use Prim.Native.Nat.{_/_, _%_}
 use native.Mathlib.Omega.{arith}
 use borrow.Author.Needs.{needs}
 use Rattle.laws.proofs.Tables.{mapped-rows}
-use Rattle.tables.specs.Same3.{same3}
 use Rattle.tables.specs.Names.{names, numberOf}
+use Rattle.tables.specs.Same3.{same3}
 use Rattle.tables.proofs.Widths.{same3-width, byteCode, fromByte, same3-bytes}
 use Rattle.tables.proofs.same3.cell.Statement.{statement}
 use Rattle.tables.proofs.same3.cell.Tie as tie

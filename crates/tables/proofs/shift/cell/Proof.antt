@@ -5,8 +5,8 @@ use Prim.Native.Nat.{_/_, _%_}
 use native.Mathlib.Omega.{arith}
 use borrow.Author.Needs.{needs}
 use Rattle.laws.proofs.Tables.{mapped-rows}
-use Rattle.tables.specs.Shift.{shiftRows, shiftCells}
 use Rattle.tables.specs.Names.{names, numberOf}
+use Rattle.tables.specs.Shift.{shiftRows, shiftCells}
 use Rattle.tables.proofs.Widths.{shift-width, byteCode, fromByte, shift-bytes}
 use Rattle.tables.proofs.shift.cell.Statement.{statement}
 use Rattle.tables.proofs.shift.cell.Tie as tie

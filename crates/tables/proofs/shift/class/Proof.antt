@@ -1,11 +1,11 @@
 -- `tables::shift::class` meets its contract: the array is the numbers of the table's column.
 -- Assumes nothing.
 use mathlib.Core.Path.{sym, _∙_}
-use borrow.Author.Needs.{needs}
 use lib.ListN.{List·getD-eq-default}
-use Rattle.tables.specs.declared.ShiftClass.the-variants.{Right}
+use borrow.Author.Needs.{needs}
 use Rattle.laws.proofs.Tables.{mapped}
 use Rattle.tables.specs.Shift.{shiftRows, shiftClasses}
+use Rattle.tables.specs.declared.ShiftClass.the-variants.{Right}
 use Rattle.tables.proofs.Codes.{classCode, class-of, class-else}
 use Rattle.tables.proofs.shift.class.Statement.{statement}
 use Rattle.tables.proofs.shift.class.Tie as tie

@@ -4,8 +4,8 @@ use Prim.Native.Nat.{_/_, _%_}
 use native.Mathlib.Omega.{arith}
 use borrow.Author.Needs.{needs}
 use Rattle.laws.proofs.Tables.{mapped-rows}
-use Rattle.tables.specs.Shift.{vmovl}
 use Rattle.tables.specs.Names.{names, numberOf}
+use Rattle.tables.specs.Shift.{vmovl}
 use Rattle.tables.proofs.Widths.{vmovl-width, past}
 use Rattle.tables.proofs.shift.vmovl_cell.Statement.{statement}
 use Rattle.tables.proofs.shift.vmovl_cell.Tie as tie
