@@ -1,14 +1,10 @@
 -- The promises of specs/Promises.antt.
 -- Assumes nothing.
 use mathlib.Core.Path.{_≡_, ap}
-use Prim.Native.Nat.{ℕ}
-use native.Mathlib.Omega.{arith}
+use Rattle.laws.proofs.Never.{never}
 use Rattle.insn.proofs.Promises.{numberedApart}
 use Rattle.decode.specs.declared.Reading.the-variants.{Read, Refused}
 use Rattle.decode.specs.Promises.{ReadingsApart}
-
-never : {A : Type 0} → _≡_ {A = ℕ} 0 1 → A
-never e = absurd (let z : ⊥ = omega arith in z)
 
 pub readingsApart : ReadingsApart
 readingsApart (Read i) (Read j) e = ap Read (let k : i ≡ j = cc in k)

@@ -15,6 +15,7 @@ use Rattle.laws.proofs.Range.{values, agree, agree2}
 use Rattle.insn.specs.declared.Operand.the-variants.{Imm}
 use Rattle.laws.specs.Search.{Found, at, none}
 use Rattle.laws.proofs.Search.{candidate, nothing}
+use Rattle.laws.proofs.Never.{never}
 use Rattle.tables.specs.declared.ShiftClass.{ShiftClass}
 use Rattle.tables.specs.declared.ShiftClass.the-variants.{Right, Left, Narrow, Long, Convert}
 use Rattle.fields.specs.Halfwords.{bit, field}
@@ -24,7 +25,7 @@ use Rattle.decode.specs.Operands.{both}
 use Rattle.decode.specs.Shift.{forbidden, columnOf}
 use Rattle.encode.specs.Forms.{orNine}
 use Rattle.encode.specs.Shift.{readsAs, amountIn}
-use Rattle.encode.proofs.Tests.{never, both-true, not-holds, same-number}
+use Rattle.encode.proofs.Tests.{both-true, not-holds, same-number}
 
 -- the amounts of a column: 1 to `span`, counted down from twice it, or 0 to `span` - 1, counted up from it
 abbrev span : ShiftClass → ℕ → ℕ

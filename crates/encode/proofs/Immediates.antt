@@ -24,6 +24,7 @@ use Rattle.tables.specs.declared.home.Home.the-variants.{Modimm}
 use Rattle.tables.proofs.Cells.{cell16, firstRow, Stands, named, modimm-stands, modimm-home}
 use Rattle.tables.proofs.Promises.{numbersBack}
 use Rattle.laws.proofs.Search.{hit, only, nothing, all-fail, candidate}
+use Rattle.laws.proofs.Never.{wrong}
 use Rattle.fields.specs.Halfwords.{bit, field}
 use Rattle.immediates.specs.Floats.{floatOf}
 use Rattle.immediates.specs.Found.{findFloat}
@@ -33,7 +34,7 @@ use Rattle.immediates.proofs.Promises.{patternBack, floatOnce}
 use Rattle.decode.specs.Operands.{both}
 use Rattle.encode.specs.Forms.{orNine}
 use Rattle.encode.specs.Modimm.{sameValue, readsAs, OnlyPlace, immediateOf}
-use Rattle.encode.proofs.Tests.{wrong, both-true, both-no, not-holds, same-text, same-number}
+use Rattle.encode.proofs.Tests.{both-true, both-no, not-holds, same-text, same-number}
 
 -- the fields of a place
 abbrev pub op : ℕ → ℕ

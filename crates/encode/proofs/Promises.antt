@@ -3,6 +3,7 @@
 use mathlib.Core.Path.{_≡_, refl, sym, ap}
 use native.Mathlib.Omega.{arith}
 use Rattle.laws.specs.Answer.{accepted}
+use Rattle.laws.proofs.Never.{never}
 use Rattle.insn.specs.declared.Operand.the-variants.{Absent}
 use Rattle.insn.specs.Record.{placeAt}
 use Rattle.insn.proofs.Places.{past}
@@ -25,7 +26,6 @@ use Rattle.encode.proofs.RoundDiff.{diff-back, diff-forth}
 use Rattle.encode.proofs.RoundShift.{shift-back, vmovl-back}
 use Rattle.encode.proofs.ShiftForth.{shift-forth}
 use Rattle.encode.proofs.RoundModimm.{modimm-back, modimm-forth}
-use Rattle.encode.proofs.Tests.{never}
 
 pub readThenWritten : ReadThenWritten
 unfolding reading inFamily

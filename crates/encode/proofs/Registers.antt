@@ -1,24 +1,22 @@
 -- Registers there and back, and what an accepted answer is made of.
 -- Assumes nothing.
 use mathlib.Core.Path.{_≡_, refl, sym, ap}
-use mathlib.Core.Bool.{Bool, true, false}
+use mathlib.Core.Bool.{Bool, Bool·beq, true, false}
 use Prim.Native.Nat.{ℕ, _/_, _%_, _<_}
-use native.Mathlib.Omega.{arith}
 use lib.Dec.{eqb}
-use borrow.Author.Tests.{eq-eqb, ne-eqb, eqb-true, eqb-false}
 use Rattle.laws.specs.Answer.{Answer, accepted, refused, andThen}
 use Rattle.laws.specs.Choice.{choose}
+use Rattle.laws.proofs.Never.{never}
 use Rattle.insn.specs.declared.Insn.{Insn}
 use Rattle.insn.specs.declared.Mark.{Mark}
 use Rattle.insn.specs.declared.Operand.{Operand}
 use Rattle.insn.specs.declared.Operand.the-variants.{D, Q, Absent}
 use Rattle.fields.specs.Registers.{Bits, bits, vecOf, vecBits}
 use Rattle.fields.proofs.Promises.{bitsOfVec, vecOfBits}
-use Rattle.decode.specs.Operands.{insn}
+use Rattle.decode.specs.Operands.{both, insn}
 use Rattle.decode.specs.Operands as Read
 use Rattle.encode.specs.Forms.{isQuad, isNumber, ofLength, registerIn, three, allThree}
 use Rattle.encode.specs.Spelling.{sameRegister, isZero}
-use Rattle.encode.proofs.Tests.{never}
 
 -- a register of a length, by its number and back
 length-of : (quad : Bool) (x : Answer Bits) (d : ℕ) → ofLength quad x ≡ accepted d → x ≡ accepted (bits quad d)
@@ -57,23 +55,14 @@ no-zero true d o e = sym (ap isZero (quad-even (eqb (d % 2) 0) (d / 2) o e))
 no-zero false d o e = let k : D d ≡ o = cc in sym (ap isZero k)
 
 -- two registers of a length are the same exactly if their numbers are
-is-even : (b : Bool) (n : ℕ) (o : Operand) → choose b (accepted (Q n)) (refused 6) ≡ accepted o → b ≡ true
-is-even true n o e = refl
-is-even false n o e = never (cc)
+of-one-length : (quad : Bool) (y z : ℕ) → both (Bool·beq quad quad) (eqb y z) ≡ eqb y z
+of-one-length true y z = refl
+of-one-length false y z = refl
 
-halves : (y z : ℕ) → y % 2 ≡ 0 → z % 2 ≡ 0 → eqb (y / 2) (z / 2) ≡ eqb y z
-halves y z hy hz = go (eqb y z) refl
-  where
-    go : (b : Bool) → eqb y z ≡ b → eqb (y / 2) (z / 2) ≡ b
-    go true e = let same = eqb-true y z e in eq-eqb (y / 2) (z / 2) (omega arith)
-    go false e = let ne = eqb-false y z e in ne-eqb (y / 2) (z / 2) (λ h. ne (omega arith))
-
-pub same-registers : (quad : Bool) (y z : ℕ) (b c : Operand) → vecOf quad y ≡ accepted b → vecOf quad z ≡ accepted c → sameRegister b c ≡ eqb y z
-unfolding vecOf
-same-registers true y z b c eb ec =
-    rw (← quad-even (eqb (y % 2) 0) (y / 2) b eb, ← quad-even (eqb (z % 2) 0) (z / 2) c ec)
-    (halves y z (eqb-true (y % 2) 0 (is-even _ _ b eb)) (eqb-true (z % 2) 0 (is-even _ _ c ec)))
-same-registers false y z b c eb ec = let k : D y ≡ b = cc in let l : D z ≡ c = cc in rw (← k, ← l)
+pub same-registers : (quad : Bool) (y z : ℕ) (b c : Operand) → (vecOf quad y ≡ accepted b) × (y < 32) → (vecOf quad z ≡ accepted c) × (z < 32)
+    → sameRegister b c ≡ eqb y z
+same-registers quad y z b c eb ec =
+    rw (bitsOfVec quad y b (eb .1) (eb .0), bitsOfVec quad z c (ec .1) (ec .0)) (of-one-length quad y z)
 
 -- what an accepted answer is made of
 pub chosen : {A : Type 0} (b : Bool) (x : Answer A) (n : ℕ) (a : A) → choose b x (refused n) ≡ accepted a → (b ≡ true) × (x ≡ accepted a)

@@ -29,6 +29,7 @@ use Rattle.tables.specs.declared.home.Home.the-variants.{Modimm}
 use Rattle.tables.proofs.Cells.{cell16, firstRow, named, modimm-stands, modimm-home}
 use Rattle.tables.proofs.Promises.{numbersBack}
 use Rattle.laws.proofs.Search.{hit, only}
+use Rattle.laws.proofs.Never.{never, wrong}
 use Rattle.fields.specs.Halfwords.{bit, field, first, second}
 use Rattle.fields.specs.Registers.{dnumOf, vecOf}
 use Rattle.fields.specs.Promises.{FirstFields, SecondFields}
@@ -53,7 +54,7 @@ use Rattle.encode.proofs.Canonical.{hw1Of, hw2Of, spelt, as-spelt}
 use Rattle.encode.proofs.Immediates.{op, cmode, imm8, row-of, says, isFloat, float-rows, only-number, spelled-back, equal, float-found}
 use Rattle.encode.proofs.Registers.{chosen, passed, two-operands, register-back, register-forth, quad-of}
 use Rattle.encode.proofs.Routing.{ImmediateBits, to-modimm, set-bit, bit-set, bit-small, number-back, number-hi, number-lo, number-small}
-use Rattle.encode.proofs.Tests.{never, wrong, same-number, number-same, same-text}
+use Rattle.encode.proofs.Tests.{same-number, number-same, same-text}
 
 -- the names: none is VORR or VSHLL
 other-names : (k : ℕ) → k < 32 → (eqt (cell16 modimm k) "vorr" ≡ false) × (eqt (movedName (cell16 modimm k)) "" ≡ true)

@@ -199,7 +199,7 @@ same3-back m k count a b c number hw1 hw2 address home e =
     filled = named m (st .known)
 
     same : sameRegister b c ≡ eqb (w .y) (w .z)
-    same = same-registers (isQuad a) (w .y) (w .z) b c (w .second .0) (w .third .0)
+    same = same-registers (isQuad a) (w .y) (w .z) b c (w .second) (w .third)
 
     zero : both (not (eqt (movedName (nameOf m)) "")) (isZero c) ≡ false
     zero = rw (no-zero (isQuad a) (w .z) c (w .third .0)) (both-no (not (eqt (movedName (nameOf m)) "")))

@@ -27,6 +27,7 @@ use Rattle.tables.specs.declared.home.Home.the-variants.{Shift, Vmovl}
 use Rattle.tables.proofs.Cells.{cell4, Stands, named, classAt, shift-stands, vmovl-stands}
 use Rattle.tables.proofs.Promises.{numbersBack}
 use Rattle.laws.proofs.Search.{hit}
+use Rattle.laws.proofs.Never.{never}
 use Rattle.fields.specs.Halfwords.{bit, field, first, second}
 use Rattle.fields.specs.Registers.{vecOf}
 use Rattle.fields.specs.Promises.{FirstFields, SecondFields}
@@ -44,7 +45,7 @@ use Rattle.encode.proofs.Amounts.{Reads, says}
 use Rattle.encode.proofs.Canonical.{hw1Of, hw2Of, spelt, as-spelt, as-vmovl}
 use Rattle.encode.proofs.Registers.{threefold, chosen, then, register-back}
 use Rattle.encode.proofs.Routing.{number-back}
-use Rattle.encode.proofs.Tests.{never, both-no}
+use Rattle.encode.proofs.Tests.{both-no}
 use Rattle.encode.proofs.ShiftRows.{isLong, rowWith, same-cell, same-class, no-vorr, moved-name, moved-filled, length-d, length-m, b-small, by-class, by-zero, fields}
 
 module _ (k b t d m : ℕ) (hb : b < 2) (ht : t < 128) (hd : d < 32) (hm : m < 32) (sized : isEscape (bit 6 t) (field 5 0 t) ≡ false) where

@@ -28,6 +28,7 @@ use Rattle.tables.specs.declared.ShiftClass.the-variants.{Right, Left, Narrow, 
 use Rattle.tables.specs.declared.home.Home.the-variants.{Shift, Vmovl}
 use Rattle.tables.proofs.Cells.{cell4, classAt, firstCell, shift-home, vmovl-home}
 use Rattle.laws.proofs.Search.{only}
+use Rattle.laws.proofs.Never.{never}
 use Rattle.fields.specs.Halfwords.{bit, field, first, second}
 use Rattle.fields.specs.Registers.{dnumOf, vecOf}
 use Rattle.fields.proofs.Promises.{firstPacked, secondPacked}
@@ -44,7 +45,7 @@ use Rattle.encode.proofs.Amounts.{only-place}
 use Rattle.encode.proofs.Registers.{passed, operands, two-operands, register-forth, quad-of}
 use Rattle.encode.proofs.RoundSame3.{place, place-u, place-o, place-b, place-row, place-column, place-small}
 use Rattle.encode.proofs.Routing.{ImmediateBits, set-bit, number-hi, number-lo, number-small}
-use Rattle.encode.proofs.Tests.{never, both-true}
+use Rattle.encode.proofs.Tests.{both-true}
 use Rattle.encode.proofs.ShiftRows.{isLong, moved-filled, by-class, by-zero}
 
 -- the place of an amount that was read

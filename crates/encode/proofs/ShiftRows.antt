@@ -13,6 +13,7 @@ use Rattle.laws.proofs.Range.{values, agree}
 use Rattle.insn.specs.declared.Mark.the-variants.{T1}
 use Rattle.tables.specs.Cells.{cellAt}
 use Rattle.laws.specs.Search.{at, none}
+use Rattle.laws.proofs.Never.{never}
 use Rattle.tables.specs.Shift.{shiftRows, shiftCells, shiftClasses, vmovl}
 use Rattle.tables.specs.declared.ShiftClass.{ShiftClass}
 use Rattle.tables.specs.declared.ShiftClass.the-variants.{Right, Left, Narrow, Long, Convert}
@@ -28,7 +29,6 @@ use Rattle.encode.specs.Shift.{quadD, quadM, bitB}
 use Rattle.encode.specs.Spelling.{movedName}
 use Rattle.encode.proofs.Registers.{operands}
 use Rattle.encode.proofs.Routing.{ImmediateBits, to-shift, bit-set, bit-small}
-use Rattle.encode.proofs.Tests.{never}
 
 abbrev pub isLong : ShiftClass → Bool
 isLong Right = false

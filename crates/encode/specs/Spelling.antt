@@ -1,6 +1,6 @@
 -- What of a record a pair carries: the mnemonic and the operands.
 -- Assumes nothing.
-use mathlib.Core.Bool.{Bool, true, false, not}
+use mathlib.Core.Bool.{Bool, Bool·beq, true, false, not}
 use mathlib.Core.Path.{_≡_}
 use Prim.Native.Nat.{ℕ}
 use Prim.Native.String.{String}
@@ -16,6 +16,7 @@ use Rattle.insn.specs.declared.Operand.{Operand}
 use Rattle.insn.specs.declared.Operand.the-variants.{D, Q, S, Imm, Float as Real, Other, Absent}
 use Rattle.insn.specs.Record.{placeAt}
 use Rattle.tables.specs.Names.{nameOf, numberOf}
+use Rattle.fields.specs.Registers.{Bits, bits, vecBits}
 use Rattle.decode.specs.Operands.{both, insn}
 use Rattle.encode.specs.Forms.{Pair, pair}
 
@@ -39,26 +40,14 @@ abbrev pub marked : Insn → Mark → ℕ → Insn
 marked i mark address =
     record { mnemonic = i .mnemonic; mark = mark; address = address; count = i .count; first = i .first; second = i .second; third = i .third }
 
+-- the same register: of one length, and one number
+abbrev pub sameBits : Answer Bits → Answer Bits → Bool
+sameBits (accepted (bits p m)) (accepted (bits q n)) = both (Bool·beq p q) (eqb m n)
+sameBits (accepted (bits p m)) (refused n) = false
+sameBits (refused n) y = false
+
 abbrev pub sameRegister : Operand → Operand → Bool
-sameRegister (D m) (D n) = eqb m n
-sameRegister (D m) (Q n) = false
-sameRegister (D m) (S n) = false
-sameRegister (D m) (Imm v) = false
-sameRegister (D m) (Real x) = false
-sameRegister (D m) Other = false
-sameRegister (D m) Absent = false
-sameRegister (Q m) (Q n) = eqb m n
-sameRegister (Q m) (D n) = false
-sameRegister (Q m) (S n) = false
-sameRegister (Q m) (Imm v) = false
-sameRegister (Q m) (Real x) = false
-sameRegister (Q m) Other = false
-sameRegister (Q m) Absent = false
-sameRegister (S m) o = false
-sameRegister (Imm v) o = false
-sameRegister (Real x) o = false
-sameRegister Other o = false
-sameRegister Absent o = false
+sameRegister x y = sameBits (vecBits x) (vecBits y)
 
 abbrev pub isZero : Operand → Bool
 isZero (Imm (pos n)) = eqb n 0

@@ -9,6 +9,7 @@ use borrow.Author.Tests.{lt-ltb, eq-eqb, eqb-true, ltb-true}
 use Rattle.laws.specs.Answer.{accepted, refused}
 use Rattle.laws.specs.Choice.{choose}
 use Rattle.laws.proofs.Digits.{digit}
+use Rattle.laws.proofs.Never.{never}
 use Rattle.insn.specs.declared.Operand.the-variants.{D, Q, S, Imm, Float, Other, Absent}
 use Rattle.insn.proofs.Promises.{numberedApart}
 use Rattle.fields.specs.declared.Vector.the-variants.{Is, Refused}
@@ -16,9 +17,6 @@ use Rattle.fields.specs.declared.VectorBits.the-variants.{Are, Refused a
 use Rattle.fields.specs.Registers.{bits, vecOf, vecBits}
 use Rattle.fields.specs.Halfwords.{first, second}
 use Rattle.fields.specs.Promises.{BitsOfVec, VecOfBits, FirstUnpacked, SecondUnpacked, FirstPacked, SecondPacked, VectorsApart, BitsApart}
-
-never : {A : Type 0} → _≡_ {A = ℕ} 0 1 → A
-never e = absurd (let z : ⊥ = omega arith in z)
 
 pub bitsOfVec : BitsOfVec
 unfolding vecOf vecBits

@@ -1,4 +1,5 @@
 pub mod Digits
+pub mod Never
 pub mod Padded
 pub mod Range
 pub mod Search

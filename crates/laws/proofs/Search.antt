@@ -9,9 +9,7 @@ use lib.Dec.{T, eqb}
 use borrow.Author.Tests.{eqb-true, eqb-false}
 use Rattle.laws.specs.Choice.{choose}
 use Rattle.laws.specs.Search.{at, none, firstFrom, firstBelow}
-
-pub never : {A : Type 0} → _≡_ {A = ℕ} 0 1 → A
-never e = absurd (let z : ⊥ = omega arith in z)
+use Rattle.laws.proofs.Never.{never}
 
 hit-from : (p : ℕ → Bool) (i n t : ℕ) → firstFrom p i n ≡ at t → (p t ≡ true) × (t < i + n)
 unfolding firstFrom

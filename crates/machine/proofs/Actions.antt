@@ -14,6 +14,7 @@ use Rattle.insn.specs.declared.Operand.{Operand}
 use Rattle.insn.specs.declared.Operand.the-variants.{D, Q, S, Imm, Float, Other, Absent}
 use Rattle.tables.specs.Names.{nameOf}
 use Rattle.laws.specs.Search.{Found, at, none}
+use Rattle.laws.proofs.Never.{never}
 use Rattle.fields.specs.Registers.{Bits, bits, vecBits}
 use Rattle.immediates.specs.Floats.{floatBits}
 use Rattle.immediates.specs.Found.{findFloat}
@@ -31,9 +32,6 @@ use Rattle.machine.specs.Forms.{formOf}
 use Rattle.machine.specs.Meaning.{Act, act, registers, acting, on, wholePattern, patternAt, floatPattern, repeated, shiftBy, countOf, meaningIn, meaningOf}
 use Rattle.machine.specs.Operations.{Sized}
 use Rattle.machine.specs.Step.{Within}
-
-pub never : {A : Type 0} → _≡_ {A = ℕ} 0 1 → A
-never e = absurd (let z : ⊥ = omega arith in z)
 
 pub repeated-lt : (w : Width) (p : ℕ) → repeated w p < 2 ^ 64
 unfolding repeated

@@ -9,6 +9,7 @@ use lib.Dec.{eqb}
 use lib.Text.{eqt}
 use Rattle.laws.specs.Answer.{Answer, accepted, refused}
 use Rattle.laws.specs.Choice.{choose}
+use Rattle.laws.proofs.Never.{never}
 use Rattle.insn.specs.declared.Insn.{Insn}
 use Rattle.insn.proofs.Promises.{numberedApart}
 use Rattle.tables.specs.Names.{names, member, nameOf}
@@ -29,7 +30,7 @@ use Rattle.machine.specs.Operations.{valueOf}
 use Rattle.machine.specs.Step.{effect, stepBy, stepInsn}
 use Rattle.machine.specs.Run.{Run}
 use Rattle.machine.specs.Promises.{FileKept, OnlyTarget, CopyAlias, Listed, Unlisted, QuadWhole, QuadTarget, MeaningsApart, OutcomesApart, RunsApart, RunKept, GoesOn}
-use Rattle.machine.proofs.Actions.{never, Known, meant}
+use Rattle.machine.proofs.Actions.{Known, meant}
 use Rattle.machine.proofs.Runs.{run-kept, run-goes-on}
 use Rattle.machine.proofs.Steps.{effect-good, effect-other, quad-whole, quad-target}
 

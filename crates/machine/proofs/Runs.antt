@@ -12,13 +12,13 @@ use lib.ListN.{length, getD, set, drop, length-set, length-drop, drop-of-length-
 use lib.Seq.{drop-cons, drop-drop}
 use Rattle.laws.specs.Answer.{Answer, accepted, refused, andThen}
 use Rattle.laws.specs.Choice.{choose}
+use Rattle.laws.proofs.Never.{never}
 use Rattle.insn.specs.declared.Insn.{Insn}
 use Rattle.decode.specs.Reading.{reading}
 use Rattle.machine.specs.File.{File}
 use Rattle.machine.specs.Meaning.{Act, act, meaningOf}
 use Rattle.machine.specs.Step.{effect, stepBy, stepRead, stepPair}
 use Rattle.machine.specs.Run.{done, stopped, Run, atOnce, after, onward, runPairs, runOf, steps}
-use Rattle.machine.proofs.Actions.{never}
 
 -- no pair before, and some pairs after others
 pub after-none : (r : Run) → after 0 r ≡ r

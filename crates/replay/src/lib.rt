@@ -41,18 +41,18 @@ pub fn field(line: &[u8], at: usize, n: usize) -> u64 {
     value
 }
 
-// The record in a line of 88 bytes, as the words of the C boundary.
+// The record in a line of a list of pairs, as the words of the C boundary.
 pub fn record(line: &[u8]) -> [u64; 10] {
     [
-        field(line, 22, 4),
-        field(line, 27, 1),
-        field(line, 10, 8),
+        field(line, 24, 4),
         field(line, 29, 1),
+        field(line, 12, 8),
         field(line, 31, 1),
-        field(line, 33, 16),
-        field(line, 50, 1),
-        field(line, 52, 16),
-        field(line, 69, 1),
-        field(line, 71, 16),
+        field(line, 33, 1),
+        field(line, 35, 16),
+        field(line, 52, 1),
+        field(line, 54, 16),
+        field(line, 71, 1),
+        field(line, 73, 16),
     ]
 }

@@ -1,8 +1,7 @@
 -- The promises of specs/Promises.antt.
 -- Assumes nothing.
 use mathlib.Core.Path.{_≡_, ap}
-use Prim.Native.Nat.{ℕ}
-use native.Mathlib.Omega.{arith}
+use Rattle.laws.proofs.Never.{never}
 use Rattle.insn.proofs.Promises.{numberedApart}
 use Rattle.machine.proofs.Promises.{runsApart}
 use Rattle.sheet.specs.declared.Translation.the-variants.{Pairs, Refused, RefusedAt}
@@ -22,9 +21,6 @@ outputKept = kept
 
 pub outputKeptAt : OutputKeptAt
 outputKeptAt = kept-at
-
-never : {A : Type 0} → _≡_ {A = ℕ} 0 1 → A
-never e = absurd (let z : ⊥ = omega arith in z)
 
 pub translationsApart : TranslationsApart
 translationsApart (Pairs m) (Pairs n) e = ap Pairs (cc)

@@ -11,6 +11,7 @@ use lib.ListN.{length, take, drop}
 use lib.Seq.{sets, sets-eq, take-at}
 use borrow.Author.Tests.{eq-eqb, ne-eqb, lt-ltb, le-ltb, eqb-true, ltb-false}
 use Rattle.laws.specs.Choice.{choose}
+use Rattle.laws.proofs.Never.{never}
 use Rattle.sheet.specs.Demand3.{Translates}
 use Rattle.sheet.specs.Pairs.{codeOf}
 use Rattle.sheet.specs.Rules.{keeps, firstBroken}
@@ -48,9 +49,6 @@ module _ (s : List ℕ) (room : ℕ) where
         rw (eq-eqb (length s % 24) 0 e, le-ltb 6144 (length s) h, steps-length s 0 (length s / 24), le-ltb broken (length s / 24) b, le-ltb room (2 * length (recordsOf s)) r)
 
 -- a refusal is no pair count
-never : {P : Type 0} → _≡_ {A = ℕ} 0 1 → P
-never z = absurd (let b : ⊥ = omega arith in b)
-
 pub not-refused : {P : Type 0} (n r : ℕ) → refused r ≡ pairs n → P
 not-refused n r e = never (cc)
 

@@ -97,45 +97,49 @@ fn number(n: u32) -> Operand
     Operand::Imm(n as i64)
 }
 
-// A constant's pairs: 32 bits set in both words of a register, a byte joined to them,
+// A constant's 32 bits, in both words of a register.
 pub fn set_word(x: Operand, v: u32) -> Insn
     ensures { λ r. ⌜ r ≡ twoOf "vmov.i32" x (numberOf v) ⌝ }
 {
     two(VMOV_I32, x, number(v))
 }
 
+// A byte joined to them, in its place.
 pub fn join_byte(r: u8, byte: u32) -> Insn
     ensures { λ i. ⌜ i ≡ twoOf "vorr.i32" (D r) (numberOf byte) ⌝ }
 {
     two(VORR_I32, Operand::D(r), number(byte))
 }
 
-// a mask in D30, and the high word from D28 by that mask.
+// The mask of a low word, in D30.
 pub fn set_mask() -> Insn
     ensures { λ i. ⌜ i ≡ twoOf "vmov.i64" (D 30) (numberOf 4294967295) ⌝ }
 {
     two(VMOV_I64, Operand::D(30), number(0xffff_ffff))
 }
 
+// The high word of D28 joined to a low word, by that mask.
 pub fn join_words(r: u8) -> Insn
     ensures { λ i. ⌜ i ≡ threeOf "vbif" (D r) (D 28) (D 30) ⌝ }
 {
     three(VBIF, Operand::D(r), Operand::D(28), Operand::D(30))
 }
 
-// A copy of a row; a row inverted, with the zero in Q14; a row picked by Q14, in Q14.
+// A copy of a row.
 pub fn copy(t: u8, a: u8) -> Insn
     ensures { λ i. ⌜ i ≡ twoOf "vmov" (Q t) (Q a) ⌝ }
 {
     two(VMOV, Operand::Q(t), Operand::Q(a))
 }
 
+// A row inverted, where Q14 is 0.
 pub fn invert(t: u8, a: u8) -> Insn
     ensures { λ i. ⌜ i ≡ threeOf "vorn" (Q t) (Q 14) (Q a) ⌝ }
 {
     three(VORN, Operand::Q(t), Operand::Q(14), Operand::Q(a))
 }
 
+// By bit one row or the other, as Q14 picks, to Q14.
 pub fn pick(a: u8, b: u8) -> Insn
     ensures { λ i. ⌜ i ≡ threeOf "vbsl" (Q 14) (Q a) (Q b) ⌝ }
 {

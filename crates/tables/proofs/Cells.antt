@@ -11,6 +11,7 @@ use lib.Text.{eqt, eqt→eq}
 use borrow.Author.Tests.{ltb-true, ltb-false}
 use Rattle.laws.specs.Choice.{choose}
 use Rattle.laws.proofs.Range.{values, agree}
+use Rattle.laws.proofs.Never.{never}
 use Rattle.tables.specs.Cells.{cellAt}
 use Rattle.tables.specs.Same3.{same3}
 use Rattle.tables.specs.Shift.{shiftRows, shiftCells, shiftClasses, vmovl}
@@ -23,7 +24,6 @@ use Rattle.tables.specs.declared.ShiftClass.the-variants.{Right, Left, N
 use Rattle.tables.specs.declared.home.Home.{Home}
 use Rattle.tables.specs.declared.home.Home.the-variants.{Same3, Shift, Vmovl, Modimm, Diff, Vmov, Nowhere}
 use Rattle.tables.proofs.Homes.{homeAt, no-home}
-use Rattle.laws.proofs.Search.{never}
 
 -- the cell at a place of a table of four columns
 abbrev pub cell4 : List (List String) → ℕ → String

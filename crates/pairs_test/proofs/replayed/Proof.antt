@@ -1,14 +1,14 @@
--- `read_test::replayed` is safe and ends.
+-- `pairs_test::replayed` is safe and ends.
 -- Assumes nothing.
 use mathlib.Core.Path.{_≡_}
 use Prim.Native.Nat.{_≤_, _-_}
 use lib.ListN.{length}
 use borrow.Author.Needs.{needs}
-use Rattle.read_test.proofs.replayed.Statement.{statement}
-use Rattle.read_test.proofs.replayed.Tie as tie
+use Rattle.pairs_test.proofs.replayed.Statement.{statement}
+use Rattle.pairs_test.proofs.replayed.Tie as tie
 
 abbrev Inv-loop : tie.InvT-loop
-Inv-loop t₀ line₀ n₀ t line n = (length line ≡ 88) × (n ≤ 1000000)
+Inv-loop t₀ line₀ n₀ t line n = (length line ≡ 90) × (n ≤ 1000000)
 
 abbrev μ-loop : tie.MeasureT-loop
 μ-loop t₀ line₀ n₀ t line n = 1000000 - n

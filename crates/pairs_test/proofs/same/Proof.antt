@@ -1,9 +1,9 @@
--- `read_test::same` is safe and ends.
+-- `pairs_test::same` is safe and ends.
 -- Assumes nothing.
 use Prim.Native.Nat.{_≤_, _-_}
 use borrow.Author.Needs.{needs}
-use Rattle.read_test.proofs.same.Statement.{statement}
-use Rattle.read_test.proofs.same.Tie as tie
+use Rattle.pairs_test.proofs.same.Statement.{statement}
+use Rattle.pairs_test.proofs.same.Tie as tie
 
 abbrev Inv-loop : tie.InvT-loop
 Inv-loop a b i₀ i = i ≤ 10

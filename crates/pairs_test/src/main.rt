@@ -1,0 +1,105 @@
+// Replays the readings and writings on standard input, which tools/replay made from the Rust original's answers.
+// Each line has 90 bytes: r or w, hw1 hw2 address answer mnemonic mark count, then kind and value of three places.
+use libc::STDIN_FILENO;
+use replay::field;
+use replay::put;
+use replay::put_count;
+use replay::put_refused;
+use replay::record;
+
+// How many lines gave each answer, 0 to 9, and how many were not as the list says.
+struct Tally {
+    read: [u64; 10],
+    written: [u64; 10],
+    wrong: u64,
+}
+
+fn same(a: [u64; 10], b: [u64; 10]) -> bool {
+    let mut i: usize = 0;
+    while i < 10 {
+        if a[i] != b[i] {
+            return false;
+        }
+        i += 1;
+    }
+    true
+}
+
+// Whether a line's pair reads as the line says; on a refusal the record stays as it was.
+fn reads(line: &[u8; 90], hw1: u16, hw2: u16, answer: u64) -> bool {
+    let address = (field(line, 12, 8) % 0x1_0000_0000) as u32;
+    let before = [77u64; 10];
+    let mut got = before;
+    let code = capi::bodlixo_read(hw1, hw2, address, &mut got);
+    let due = if answer == 0 { record(line) } else { before };
+    code as u64 == answer && same(got, due)
+}
+
+// Whether a line's record is written as the line says; on a refusal the pair stays as it was.
+fn writes(line: &[u8; 90], hw1: u16, hw2: u16, answer: u64) -> bool {
+    let words = record(line);
+    let mut pair = [7u16; 2];
+    let code = capi::bodlixo_write(&words, &mut pair);
+    let due = if answer == 0 { [hw1, hw2] } else { [7, 7] };
+    code as u64 == answer && pair[0] == due[0] && pair[1] == due[1]
+}
+
+// One line more.
+fn counted(t: Tally, line: &[u8; 90]) -> Tally {
+    let mut next = t;
+    let hw1 = (field(line, 2, 4) % 65536) as u16;
+    let hw2 = (field(line, 7, 4) % 65536) as u16;
+    let answer = field(line, 21, 2);
+    let at = (answer % 10) as usize;
+    let is_reading = line[0] == b'r';
+    let agrees = if is_reading {
+        next.read[at] = next.read[at] % 1000000 + 1;
+        reads(line, hw1, hw2, answer)
+    } else {
+        next.written[at] = next.written[at] % 1000000 + 1;
+        writes(line, hw1, hw2, answer)
+    };
+    if !agrees {
+        next.wrong = next.wrong % 1000000 + 1;
+        put(b"not so: ");
+        put(line);
+    }
+    next
+}
+
+fn replayed() -> Tally {
+    let mut t = Tally {
+        read: [0; 10],
+        written: [0; 10],
+        wrong: 0,
+    };
+    let mut line = [0u8; 90];
+    let mut n: u64 = 0;
+    while n < 1000000 {
+        let got = io::read_full(STDIN_FILENO, &mut line);
+        if got < 90 {
+            return t;
+        }
+        let next = counted(t, &line);
+        t = next;
+        n += 1;
+    }
+    t
+}
+
+fn main() {
+    let t = replayed();
+    put_count(b"read ", t.read[0]);
+    put_refused(1, t.read[1]);
+    put_refused(2, t.read[2]);
+    put_refused(3, t.read[3]);
+    put_refused(4, t.read[4]);
+    put_refused(5, t.read[5]);
+    put_refused(6, t.read[6]);
+    put_count(b"written ", t.written[0]);
+    put_refused(5, t.written[5]);
+    put_refused(7, t.written[7]);
+    put_refused(8, t.written[8]);
+    put_refused(9, t.written[9]);
+    put_count(b"not as the list says ", t.wrong);
+}
