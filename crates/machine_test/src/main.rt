@@ -1,45 +1,16 @@
 // Runs worked vectors through the machine, each on doublewords and on both halves of quadwords, and prints how many passed.
 // A line of the input that begins with # is text. Any other is a space and a vector: mnemonic, shape, number, old target,
 // first source, second source, result, and then how the result was worked.
-ghost use Prim.Native.Nat.{_<_, _≤_};
 use insn::Insn;
 use insn::Mark;
 use insn::Operand;
 use libc::STDIN_FILENO;
-use libc::STDOUT_FILENO;
 use machine::Outcome;
+use replay::field;
+use replay::put;
+use replay::put_count;
+use replay::same_file;
 use tables::names;
-
-fn put(text: &[u8]) {
-    io::write_all(STDOUT_FILENO, text);
-}
-
-fn put_line(label: &[u8], n: u64) {
-    put(label);
-    io::print_decimal(STDOUT_FILENO, n);
-    put(b"\n");
-}
-
-fn digit(b: u8) -> u64
-    ensures { λ r. ⌜ r < 16 ⌝ }
-{
-    if b < b'a' {
-        (b % 16) as u64
-    } else {
-        ((b % 16 + 9) % 16) as u64
-    }
-}
-
-// The number of 16 hexadecimal digits at a place of the line.
-fn hex(line: &[u8; 100], at: usize) -> u64
-    requires { ⌜ at ≤ 84 ⌝ }
-{
-    let mut v: u64 = 0;
-    for j in 0..16usize {
-        v = v % 0x1000_0000_0000_0000 * 16 + digit(line[at + j]);
-    }
-    v
-}
 
 fn begins(line: &[u8; 100], mnemonic: u16) -> bool {
     for j in 0..12u8 {
@@ -117,15 +88,6 @@ fn start(d: u64, n: u64, m: u64) -> [u64; 32] {
     file
 }
 
-fn same(a: [u64; 32], b: [u64; 32]) -> bool {
-    for k in 0..32usize {
-        if a[k] != b[k] {
-            return false;
-        }
-    }
-    true
-}
-
 // Whether a step has the refusal's number, 0 for done, and leaves the file `after`.
 fn steps(file: [u64; 32], i: Insn, number: u8, after: [u64; 32]) -> bool {
     let s = machine::step_insn(file, i);
@@ -138,18 +100,22 @@ fn steps(file: [u64; 32], i: Insn, number: u8, after: [u64; 32]) -> bool {
     if got != number {
         return false;
     }
-    same(left, after)
+    same_file(left, after)
 }
 
 // Whether the line's vector passes, on doublewords or on quadwords. The shapes before the small letters are refused.
 fn passes(line: &[u8; 100], mnemonic: u16, quad: bool) -> bool {
     let shape = line[13];
-    let i = record(mnemonic, shape, hex(line, 15), quad);
-    let file = start(hex(line, 32), hex(line, 49), hex(line, 66));
+    let i = record(mnemonic, shape, field(line, 15, 16), quad);
+    let file = start(
+        field(line, 32, 16),
+        field(line, 49, 16),
+        field(line, 66, 16),
+    );
     if shape < b'a' {
         return steps(file, i, 10, file);
     }
-    let result = hex(line, 83);
+    let result = field(line, 83, 16);
     let mut after = file;
     after[0] = result;
     if quad {
@@ -230,7 +196,7 @@ fn main() {
         }
         skip();
     }
-    put_line(b"vectors ", read);
-    put_line(b"passed ", passed);
-    put_line(b"names with a meaning ", count_meanings());
+    put_count(b"vectors ", read);
+    put_count(b"passed ", passed);
+    put_count(b"names with a meaning ", count_meanings());
 }

@@ -41,6 +41,28 @@ pub fn field(line: &[u8], at: usize, n: usize) -> u64 {
     value
 }
 
+// The 32 doublewords of 16 digits each from a place of the line on.
+pub fn file_at(line: &[u8], at: u16) -> [u64; 32] {
+    let mut file = [0u64; 32];
+    let mut i: usize = 0;
+    while i < 32 {
+        file[i] = field(line, at as usize + 16 * i, 16);
+        i += 1;
+    }
+    file
+}
+
+pub fn same_file(a: [u64; 32], b: [u64; 32]) -> bool {
+    let mut i: usize = 0;
+    while i < 32 {
+        if a[i] != b[i] {
+            return false;
+        }
+        i += 1;
+    }
+    true
+}
+
 // The record in a line of a list of pairs, as the words of the C boundary.
 pub fn record(line: &[u8]) -> [u64; 10] {
     [

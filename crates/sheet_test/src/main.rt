@@ -7,9 +7,11 @@ use machine::run::Ran;
 use machine::run::run;
 use replay::digit;
 use replay::field;
+use replay::file_at;
 use replay::put;
 use replay::put_count;
 use replay::put_refused;
+use replay::same_file;
 use sheet::Evaluation;
 use sheet::Translation;
 
@@ -30,17 +32,6 @@ struct Tally {
     wrong: u64,
 }
 
-// The 32 doublewords from a place on.
-fn file_at(line: &[u8; 1105], at: usize) -> [u64; 32] {
-    let mut file = [0u64; 32];
-    let mut i: usize = 0;
-    while i < 32 {
-        file[i] = field(line, at % 1105 + 16 * i, 16);
-        i += 1;
-    }
-    file
-}
-
 // The bytes of the second line.
 fn bytes_of(text: &[u8; 12400]) -> [u8; 6200] {
     let mut bytes = [0u8; 6200];
@@ -50,17 +41,6 @@ fn bytes_of(text: &[u8; 12400]) -> [u8; 6200] {
         i += 1;
     }
     bytes
-}
-
-fn same(a: [u64; 32], b: [u64; 32]) -> bool {
-    let mut i: usize = 0;
-    while i < 32 {
-        if a[i] != b[i] {
-            return false;
-        }
-        i += 1;
-    }
-    true
 }
 
 // The sum by which a whole output is compared, a halfword at a time.
@@ -150,7 +130,7 @@ fn agrees(line: &[u8; 1105], sheet: &[u8]) -> bool {
     let room = (field(line, 5, 4) % 10304) as usize;
     let words = (field(line, 27, 4) % 33) as usize;
     let a = called(sheet, &mut out[..room], start, &mut file[..words], budget);
-    said(line, a) && check(&out) == field(line, 62, 16) && same(file, file_at(line, 592))
+    said(line, a) && check(&out) == field(line, 62, 16) && same_file(file, file_at(line, 592))
 }
 
 // The second line of a case, whose sheet has that many bytes.

@@ -2,10 +2,10 @@
 // Standard input has the list, every operation at every width once, and then D0 to D31 at the start: 80 lines of two
 // halfwords and 32 of a doubleword, in hexadecimal. The argument says how many rounds; the one line that is written says
 // how many pairs were done and what the registers add up to.
-ghost use Prim.Native.Nat.{_+_, _<_, _≤_};
 use libc::STDIN_FILENO;
 use libc::STDOUT_FILENO;
 use machine::Outcome;
+use replay::field;
 
 struct Tally {
     done: u64,
@@ -26,35 +26,12 @@ fn decimal(digits: &[u8; 8]) -> u64 {
     value
 }
 
-fn digit(b: u8) -> u64
-    ensures { λ r. ⌜ r < 16 ⌝ }
-{
-    if b < b'a' {
-        (b % 16) as u64
-    } else {
-        ((b % 16 + 9) % 16) as u64
-    }
-}
-
-// The number of n hexadecimal digits at a place of the input.
-fn hex(text: &[u8; 1344], at: usize, n: usize) -> u64
-    requires { ⌜ at + n ≤ 1344 ⌝ }
-{
-    let mut value: u64 = 0;
-    let mut i: usize = 0;
-    while i < n {
-        value = value % 0x1000_0000_0000_0000 * 16 + digit(text[at + i]);
-        i += 1;
-    }
-    value
-}
-
 // The list's halfwords.
 fn code_of(text: &[u8; 1344]) -> [u16; 160] {
     let mut code = [0u16; 160];
     let mut k: usize = 0;
     while k < 160 {
-        code[k] = (hex(text, 5 * k, 4) % 65536) as u16;
+        code[k] = (field(text, 5 * k, 4) % 65536) as u16;
         k += 1;
     }
     code
@@ -65,7 +42,7 @@ fn file_of(text: &[u8; 1344]) -> [u64; 32] {
     let mut file = [0u64; 32];
     let mut k: usize = 0;
     while k < 32 {
-        file[k] = hex(text, 800 + 17 * k, 16);
+        file[k] = field(text, 800 + 17 * k, 16);
         k += 1;
     }
     file
