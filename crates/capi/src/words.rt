@@ -26,38 +26,33 @@ fn float_word(x: f64) -> u64
     }
 }
 
-// An operand as two words.
-struct Words {
-    kind: u64,
-    value: u64,
-}
-
-fn operand_words(o: Operand) -> Words
-    ensures { λ r. ⌜ (r .kind ≡ kindWord o) × (r .value ≡ valueWord o) ⌝ }
+// What an operand is, as a number.
+fn kind_word(o: Operand) -> u64
+    ensures { λ r. ⌜ r ≡ kindWord o ⌝ }
 {
     match o {
-        Operand::D(n) => Words {
-            kind: 1,
-            value: n as u64,
-        },
-        Operand::Q(n) => Words {
-            kind: 2,
-            value: n as u64,
-        },
-        Operand::S(n) => Words {
-            kind: 3,
-            value: n as u64,
-        },
-        Operand::Imm(v) => Words {
-            kind: 4,
-            value: immediates::signed::pattern_of(v),
-        },
-        Operand::Float(x) => Words {
-            kind: 5,
-            value: float_word(x),
-        },
-        Operand::Other => Words { kind: 6, value: 0 },
-        Operand::Absent => Words { kind: 0, value: 0 },
+        Operand::Absent => 0,
+        Operand::D(_) => 1,
+        Operand::Q(_) => 2,
+        Operand::S(_) => 3,
+        Operand::Imm(_) => 4,
+        Operand::Float(_) => 5,
+        Operand::Other => 6,
+    }
+}
+
+// What an operand holds, as a number.
+fn value_word(o: Operand) -> u64
+    ensures { λ r. ⌜ r ≡ valueWord o ⌝ }
+{
+    match o {
+        Operand::D(n) => n as u64,
+        Operand::Q(n) => n as u64,
+        Operand::S(n) => n as u64,
+        Operand::Imm(v) => immediates::signed::pattern_of(v),
+        Operand::Float(x) => float_word(x),
+        Operand::Other => 0,
+        Operand::Absent => 0,
     }
 }
 
@@ -68,20 +63,17 @@ pub fn record_words(i: Insn) -> [u64; 10]
     let first = i.first;
     let second = i.second;
     let third = i.third;
-    let a = operand_words(first);
-    let b = operand_words(second);
-    let c = operand_words(third);
     let mark = i.mark;
     [
         i.mnemonic as u64,
         mark_word(mark),
         i.address as u64,
         i.count as u64,
-        a.kind,
-        a.value,
-        b.kind,
-        b.value,
-        c.kind,
-        c.value,
+        kind_word(first),
+        value_word(first),
+        kind_word(second),
+        value_word(second),
+        kind_word(third),
+        value_word(third),
     ]
 }

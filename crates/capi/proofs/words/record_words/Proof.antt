@@ -6,7 +6,7 @@ use Rattle.capi.proofs.words.record_words.Tie as tie
 
 returns : tie.Need-returns
 returns c =
-    rw (c .before .before .mark-word .ensures, c .before .before .before .before .before .before .operand-words .ensures .0, c .before .before .before .before .before .before .operand-words .ensures .1, c .before .before .before .before .before .operand-words2 .ensures .0, c .before .before .before .before .before .operand-words2 .ensures .1, c .before .before .before .before .operand-words3 .ensures .0, c .before .before .before .before .operand-words3 .ensures .1)
+    rw (c .before .before .before .before .before .before .before .before .mark-word .ensures, c .before .before .before .before .before .kind-word .ensures, c .before .before .before .before .value-word .ensures, c .before .before .before .kind-word2 .ensures, c .before .before .value-word2 .ensures, c .before .kind-word3 .ensures, c .value-word3 .ensures)
 
 pub record-words-spec : {M : Type 1} → statement M
-record-words-spec = tie.close (tie.spec (λ c κs. search needs) (λ c κs. search needs) (λ c κs. search needs) (λ c. search needs) (λ c κs. search needs) (λ c. search needs) (λ c. search needs) returns)
+record-words-spec = tie.close (tie.spec (λ c. search needs) (λ c κs. search needs) (λ c. search needs) (λ c. search needs) (λ c κs. search needs) (λ c κs. search needs) (λ c κs. search needs) (λ c κs. search needs) (λ c κs. search needs) (λ c κs. search needs) returns)
