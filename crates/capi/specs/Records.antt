@@ -6,11 +6,11 @@ use lib.Dec.{eqb, ltb}
 use lib.Ieee.{ofBits, binary64}
 use lib.ListN.{getD}
 use Rattle.laws.specs.Choice.{choose}
+use Rattle.laws.specs.Signed.{twosComplement}
 use Rattle.insn.specs.declared.Insn.{Insn}
 use Rattle.insn.specs.declared.Mark.the-variants.{T1, T2}
 use Rattle.insn.specs.declared.Operand.{Operand}
 use Rattle.insn.specs.declared.Operand.the-variants.{D, Q, S, Imm, Float, Other, Absent}
-use Rattle.immediates.specs.Signed.{signedOf}
 
 -- a word in a field of so many bits: one that is too large stands for the largest, which no mnemonic and no count is
 abbrev pub fieldWord : ℕ → ℕ → ℕ
@@ -23,7 +23,7 @@ operandWord kind value =
     (choose (eqb kind 1) (choose (ltb value 256) (D value) Other)
     (choose (eqb kind 2) (choose (ltb value 256) (Q value) Other)
     (choose (eqb kind 3) (choose (ltb value 256) (S value) Other)
-    (choose (eqb kind 4) (Imm (signedOf value))
+    (choose (eqb kind 4) (Imm (twosComplement 64 value))
     (choose (eqb kind 5) (Float (ofBits binary64 value)) Other)))))
 
 -- writing looks at neither address nor mark

@@ -2,11 +2,11 @@
 -- Assumes nothing.
 use mathlib.Core.Path.{refl}
 use lib.Ieee.{odd}
+use Rattle.laws.specs.Signed.{twosComplement}
 use Rattle.fields.specs.Registers.{vecOf}
 use Rattle.immediates.specs.Floats.{floatOf}
 use Rattle.immediates.specs.Modified.{constantAt, element, operandIn, needsNonzero}
 use Rattle.immediates.specs.Shifts.{isEscape, codeOf, rightEnd, leftStart}
-use Rattle.immediates.specs.Signed.{signedOf}
 use Rattle.tables.specs.Names.{names, numberOf, pairwise}
 use Rattle.tables.specs.Same3.{same3}
 use Rattle.tables.specs.Shift.{shiftRows, shiftCells, shiftClasses, vmovl}
@@ -21,5 +21,5 @@ use Rattle.decode.specs.Reading.{familyOf, inFamily, reading}
 use Rattle.decode.specs.Starred.{starred, expected, StarredRead}
 
 pub starredRead : StarredRead
-unfolding starred expected reading inFamily familyOf same3Of same3Reading shaped diffOf diffReading forbidden columnOf longOf shifted shiftOf shiftReading modimmOf modimmReading two three same3 shiftRows shiftCells shiftClasses vmovl modimm diffRows diffCells diffShapes diffMarks names numberOf pairwise vecOf isEscape codeOf rightEnd leftStart constantAt element operandIn needsNonzero signedOf floatOf odd
+unfolding starred expected reading inFamily familyOf same3Of same3Reading shaped diffOf diffReading forbidden columnOf longOf shifted shiftOf shiftReading modimmOf modimmReading two three same3 shiftRows shiftCells shiftClasses vmovl modimm diffRows diffCells diffShapes diffMarks names numberOf pairwise vecOf isEscape codeOf rightEnd leftStart constantAt element operandIn needsNonzero twosComplement floatOf odd
 starredRead address = refl

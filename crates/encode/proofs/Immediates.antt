@@ -12,24 +12,25 @@ use lib.Text.{eqt, eqt-refl}
 use borrow.Author.Tests.{eqb-true, ltb-true, eq-eqb}
 use Rattle.laws.specs.Answer.{accepted, refused}
 use Rattle.laws.specs.Choice.{choose}
+use Rattle.laws.specs.Search.{at, none}
+use Rattle.laws.specs.Signed.{twosComplement}
 use Rattle.laws.proofs.Range.{values, agree}
+use Rattle.laws.proofs.Search.{hit, only, nothing, all-fail, candidate}
+use Rattle.laws.proofs.Never.{wrong}
 use Rattle.insn.specs.declared.Operand.{Operand}
 use Rattle.insn.specs.declared.Operand.the-variants.{Imm, Float}
 use Rattle.tables.specs.Cells.{cellAt}
 use Rattle.tables.specs.Home.{homeOf}
 use Rattle.tables.specs.Modimm.{modimm}
 use Rattle.tables.specs.Names.{names, nameOf, numberOf}
-use Rattle.laws.specs.Search.{at, none}
 use Rattle.tables.specs.declared.home.Home.the-variants.{Modimm}
 use Rattle.tables.proofs.Cells.{cell16, firstRow, Stands, named, modimm-stands, modimm-home}
 use Rattle.tables.proofs.Promises.{numbersBack}
-use Rattle.laws.proofs.Search.{hit, only, nothing, all-fail, candidate}
-use Rattle.laws.proofs.Never.{wrong}
 use Rattle.fields.specs.Halfwords.{bit, field}
 use Rattle.immediates.specs.Floats.{floatOf}
 use Rattle.immediates.specs.Found.{findFloat}
 use Rattle.immediates.specs.Modified.{Constant, byte, eachBit, float, undefined, constantAt, element, operandIn, modimmOperand, needsNonzero}
-use Rattle.immediates.specs.Signed.{signedOf, patternOf}
+use Rattle.immediates.specs.Signed.{patternOf}
 use Rattle.immediates.proofs.Promises.{patternBack, floatOnce}
 use Rattle.decode.specs.Operands.{both}
 use Rattle.encode.specs.Forms.{orNine}
@@ -113,7 +114,7 @@ carried-number : (k : Constant) (b : ℕ) (v : ℤ) → b < 256 → sameValue (o
 unfolding operandIn patternOf
 carried-number (byte bits place ones) b v h e = (refl, ap patternOf (same-number (pos (element (byte bits place ones) b)) v e))
 carried-number eachBit b v h e =
-    (refl, sym (patternBack (element eachBit b) (bytes-fit b h)) ∙ ap patternOf (same-number (signedOf (element eachBit b)) v e))
+    (refl, sym (patternBack (element eachBit b) (bytes-fit b h)) ∙ ap patternOf (same-number (twosComplement 64 (element eachBit b)) v e))
 carried-number float b v h e = wrong e
 carried-number undefined b v h e = wrong e
 
@@ -187,14 +188,14 @@ guess-small cell p h = go (eqb (cell % 16) 14) (ltb cell 16) (ltb (cell % 16) 8)
     go false b false ea ec e = omega (arith, halfword-small p, ltb-true cell 26 e)
 
 -- what the candidate promises
-pub only-candidate : (m cell p r : ℕ) → homeOf (nameOf m) false ≡ Modimm cell → p < 2 ^ 64 → r ≡ guess cell p → (r < 8192) × OnlyPlace (nameOf m) (Imm (signedOf p)) r
+pub only-candidate : (m cell p r : ℕ) → homeOf (nameOf m) false ≡ Modimm cell → p < 2 ^ 64 → r ≡ guess cell p → (r < 8192) × OnlyPlace (nameOf m) (Imm (twosComplement 64 p)) r
 only-candidate m cell p r home h e =
     let s = stands m cell home in
     let first : firstRow cell ≡ cell = first-of m cell home cell (s .within) (s .spelled) in
     let filled : eqt (cell16 modimm cell) "" ≡ false = ap (λ (t : String). eqt t "") (s .spelled) ∙ named m (s .known) in
     let roomly = rw (eq-eqb (firstRow cell) cell first, filled) at (room cell (s .within)) in (
       rw e (guess-small cell p (s .within) roomly),
-      rw e (rw (patternBack p h) at (only-number m cell home (signedOf p))),
+      rw e (rw (patternBack p h) at (only-number m cell home (twosComplement 64 p))),
     )
 
 -- the search for a number, by its candidate

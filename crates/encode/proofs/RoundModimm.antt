@@ -12,8 +12,12 @@ use lib.Text.{eqt}
 use borrow.Author.Tests.{eq-eqb, eqb-true}
 use Rattle.laws.specs.Answer.{Answer, accepted, refused}
 use Rattle.laws.specs.Choice.{choose}
+use Rattle.laws.specs.Search.{Found, at, none}
+use Rattle.laws.specs.Signed.{twosComplement}
 use Rattle.laws.proofs.Digits.{digit}
 use Rattle.laws.proofs.Range.{values, agree}
+use Rattle.laws.proofs.Search.{hit, only}
+use Rattle.laws.proofs.Never.{never, wrong}
 use Rattle.insn.specs.declared.Insn.{Insn}
 use Rattle.insn.specs.declared.Mark.{Mark}
 use Rattle.insn.specs.declared.Mark.the-variants.{T1}
@@ -24,12 +28,9 @@ use Rattle.tables.specs.Cells.{cellAt}
 use Rattle.tables.specs.Names.{nameOf, numberOf}
 use Rattle.tables.specs.Home.{homeOf}
 use Rattle.tables.specs.Modimm.{modimm}
-use Rattle.laws.specs.Search.{Found, at, none}
 use Rattle.tables.specs.declared.home.Home.the-variants.{Modimm}
 use Rattle.tables.proofs.Cells.{cell16, firstRow, named, modimm-stands, modimm-home}
 use Rattle.tables.proofs.Promises.{numbersBack}
-use Rattle.laws.proofs.Search.{hit, only}
-use Rattle.laws.proofs.Never.{never, wrong}
 use Rattle.fields.specs.Halfwords.{bit, field, first, second}
 use Rattle.fields.specs.Registers.{dnumOf, vecOf}
 use Rattle.fields.specs.Promises.{FirstFields, SecondFields}
@@ -37,7 +38,6 @@ use Rattle.fields.proofs.Promises.{firstUnpacked, secondUnpacked, firstPacked, 
 use Rattle.immediates.specs.Floats.{floatOf}
 use Rattle.immediates.specs.Modified.{Constant, byte, eachBit, float, undefined, constantAt, element, operandIn, modimmOperand, needsNonzero}
 use Rattle.immediates.specs.Shifts.{isEscape}
-use Rattle.immediates.specs.Signed.{signedOf}
 use Rattle.immediates.proofs.Found.{fitting}
 use Rattle.immediates.proofs.Promises.{floatBack}
 use Rattle.immediates.proofs.Same as Same
@@ -133,7 +133,7 @@ record Carried (name : String) (value : Operand) (t : ℕ) : Type 0 where
 number-is : (k : Constant) (b : ℕ) (v : ℤ) → sameValue (operandIn k b) (Imm v) ≡ true → operandIn k b ≡ Imm v
 unfolding operandIn
 number-is (byte bits place ones) b v e = ap Imm (same-number (pos (element (byte bits place ones) b)) v e)
-number-is eachBit b v e = ap Imm (same-number (signedOf (element eachBit b)) v e)
+number-is eachBit b v e = ap Imm (same-number (twosComplement 64 (element eachBit b)) v e)
 number-is float b v e = wrong e
 number-is undefined b v e = wrong e
 
@@ -261,7 +261,7 @@ module _ (t : ℕ) (ht : t < 8192) (filled : eqt (cell16 modimm (t / 256)) "" �
           (number-again (pos (element (byte bits place ones) (imm8 t))) (ap (λ (k : Constant). operandIn k (imm8 t)) e))
       go eachBit e =
           rw (ap (λ (s : String). eqt s "vmov.f32") name-back ∙ float-test, e)
-          (number-again (signedOf (element eachBit (imm8 t))) (ap (λ (k : Constant). operandIn k (imm8 t)) e))
+          (number-again (twosComplement 64 (element eachBit (imm8 t))) (ap (λ (k : Constant). operandIn k (imm8 t)) e))
       go float e =
           let name : cell ≡ "vmov.f32" = same-text cell "vmov.f32" (rw e at float-test) in
           rw (name-back, name) (float-again e)

@@ -1,15 +1,15 @@
 // Writing one register and a modified immediate.
 ghost use mathlib.Core.Bool.{false};
 ghost use mathlib.Core.Path.{_≡_};
-ghost use Prim.Native.Nat.{_+_, _*_, _/_, _%_, _<_, _≤_};
+ghost use Prim.Native.Nat.{_+_, _*_, _/_, _%_, _<_};
 ghost use lib.Dec.{eqb, ltb};
 ghost use Rattle.laws.specs.Answer.{accepted};
 ghost use Rattle.laws.specs.Choice.{choose};
+ghost use Rattle.laws.specs.Signed.{twosComplement};
 ghost use Rattle.tables.specs.Home.{homeOf};
 ghost use Rattle.tables.specs.Names.{nameOf};
 ghost use Rattle.fields.specs.Halfwords.{bit, field};
 ghost use Rattle.immediates.specs.Modified.{needsNonzero};
-ghost use Rattle.immediates.specs.Signed.{signedOf};
 ghost use Rattle.decode.specs.Operands.{both};
 ghost use Rattle.encode.specs.Answers.{writingAnswer, fieldAnswer};
 ghost use Rattle.encode.specs.Modimm.{modimmPair, sameValue, readsAs, OnlyPlace, immediateOf, immediateIn, modimmWriting};
@@ -77,7 +77,7 @@ fn word_offset(p: u64) -> u16
 // The one place op:cmode:imm8 that could carry a mnemonic and the number of a pattern; the mnemonic's first cell is given.
 fn candidate(cell: u8, m: u16, p: u64) -> u16
     requires { ⌜ homeOf (nameOf m) false ≡ Home.Modimm cell ⌝ }
-    ensures { λ r. ⌜ (r < 8192) × OnlyPlace (nameOf m) (Operand.Imm (signedOf p)) r ⌝ }
+    ensures { λ r. ⌜ (r < 8192) × OnlyPlace (nameOf m) (Operand.Imm (twosComplement 64 p)) r ⌝ }
 {
     let base = cell as u16 * 256;
     if cell % 16 == 14 {

@@ -11,14 +11,15 @@ use lib.Ieee.{binary32, ofBits}
 use lib.Ieee.Exact.{odd-sign}
 use borrow.Author.Tests.{ltb-true, ltb-false, leb-true}
 use Rattle.laws.specs.Choice.{choose}
+use Rattle.laws.specs.Signed.{twosComplement}
 use Rattle.laws.proofs.Range.{values, agree, agree2}
+use Rattle.laws.proofs.Signed.{signed-low, signed-high}
 use Rattle.tables.specs.declared.ShiftClass.the-variants.{Right, Left}
-use Rattle.immediates.specs.Signed.{signedOf, patternOf}
+use Rattle.immediates.specs.Signed.{patternOf}
 use Rattle.immediates.specs.Floats.{kOf, floatOf, floatBits}
 use Rattle.immediates.specs.Shifts.{isEscape, codeOf, bitsOf, rightEnd, leftStart, amountOf}
 use Rattle.immediates.specs.Promises.{FloatValue, FloatPattern, FloatOnce, FloatBack, PatternBack, SignedBack, RightAmounts, LeftAmounts, ConvertAmounts}
 use Rattle.immediates.proofs.Found.{its-bits, back-found}
-use Rattle.immediates.proofs.Signs.{signed-low, signed-high}
 
 pub floatValue : FloatValue
 unfolding floatOf
@@ -38,14 +39,14 @@ pub patternBack : PatternBack
 unfolding patternOf
 patternBack p h = go (ltb p (2 ^ 63)) refl
   where
-    go : (b : Bool) → ltb p (2 ^ 63) ≡ b → patternOf (signedOf p) ≡ p
-    go true e = rw (signed-low p (ltb-true p (2 ^ 63) e))
-    go false e = rw (signed-high p (ltb-false p (2 ^ 63) e) h) (omega arith)
+    go : (b : Bool) → ltb p (2 ^ 63) ≡ b → patternOf (twosComplement 64 p) ≡ p
+    go true e = rw (signed-low 64 p (ltb-true p (2 ^ 63) e))
+    go false e = rw (signed-high 64 p h (ltb-false p (2 ^ 63) e)) (omega arith)
 
 pub signedBack : SignedBack
 unfolding patternOf
-signedBack (pos n) h = signed-low n h
-signedBack (negsuc n) h = rw (signed-high (2 ^ 64 - 1 - n) (omega arith) (omega arith)) (ap negsuc (omega arith))
+signedBack (pos n) h = signed-low 64 n h
+signedBack (negsuc n) h = rw (signed-high 64 (2 ^ 64 - 1 - n) (omega arith) (omega arith)) (ap negsuc (omega arith))
 
 -- a test that holds at every L and imm6 that encode an element size
 sized : (t : ℕ → ℕ → Bool) → values (λ (k : ℕ). choose (isEscape (k / 64) (k % 64)) true (t (k / 64) (k % 64))) 0 128 ≡ values (λ (k : ℕ). true) 0 128

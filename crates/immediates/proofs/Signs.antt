@@ -1,6 +1,6 @@
 -- Two's complement of 64 bits, and what the casts between u64 and i64 ask.
 -- Assumes nothing.
-use mathlib.Core.Path.{_≡_, refl, sym, ap, subst, _∙_}
+use mathlib.Core.Path.{_≡_, refl, sym, ap, _∙_}
 use mathlib.Core.Bool.{true, false}
 use Prim.Native.Nat.{ℕ, zero, suc, _-_, _^_, _<_, _≤_}
 use native.Mathlib.Nat.{zero-add}
@@ -11,17 +11,11 @@ use lib.Signed.{leZ, nonNeg}
 use mir.Syntax.{w64}
 use mir.Val.{SFits, Fits, toZ, ofZ}
 use mir.Facts.{toZ-ofZ, toZ-pos}
-use borrow.Author.Tests.{le-ltb, lt-ltb}
-use Rattle.immediates.specs.Signed.{patternOf, signedOf}
-
--- the two halves of signedOf
-pub signed-low : (p : ℕ) → p < 2 ^ 63 → signedOf p ≡ pos p
-unfolding signedOf
-signed-low p h = rw (lt-ltb p (2 ^ 63) h)
-
-pub signed-high : (p : ℕ) → 2 ^ 63 ≤ p → p < 2 ^ 64 → signedOf p ≡ negsuc (2 ^ 64 - 1 - p)
-unfolding signedOf
-signed-high p h l = rw (le-ltb p (2 ^ 63) h, lt-ltb p (2 ^ 64) l) (ap negsuc (omega arith))
+use borrow.Author.Tests.{le-ltb}
+use Rattle.laws.specs.Signed.{twosComplement}
+use Rattle.laws.proofs.Never.{wrong}
+use Rattle.laws.proofs.Signed.{signed-high}
+use Rattle.immediates.specs.Signed.{patternOf}
 
 -- -1 - v
 abbrev pub flip : ℤ → ℤ
@@ -37,31 +31,28 @@ pub flip-fits : {v : ℤ} → SFits w64 v → SFits w64 (flip v)
 flip-fits {v = pos n} f = record { sfits = f .sfits }
 flip-fits {v = negsuc n} f = record { sfits = f .sfits }
 
-no-way : {A : Type 0} → false ≡ true → A
-no-way e = absurd (subst T (sym e) tt)
-
 -- a number that is not negative is its own pattern
 pub pos-asks : {v : ℤ} → SFits w64 v → leZ (pos 0) v ≡ true → T (nonNeg v) × Fits w64 (natAbs v)
 pos-asks {v = pos n} f e = (tt, omega arith)
-pos-asks {v = negsuc n} f e = no-way e
+pos-asks {v = negsuc n} f e = wrong e
 
 pub pos-is : (v : ℤ) → leZ (pos 0) v ≡ true → natAbs v ≡ patternOf v
 unfolding patternOf
 pos-is (pos n) e = refl
-pos-is (negsuc n) e = no-way e
+pos-is (negsuc n) e = wrong e
 
 -- the pattern of a negative number
 pub neg-asks : {v : ℤ} → SFits w64 v → leZ (pos 0) v ≡ false → T (nonNeg (flip v)) × Fits w64 (natAbs (flip v))
-neg-asks {v = pos n} f e = no-way (sym e ∙ leb·zero n)
+neg-asks {v = pos n} f e = wrong (sym e ∙ leb·zero n)
 neg-asks {v = negsuc n} f e = (tt, omega arith)
 
 pub neg-le : {v : ℤ} → SFits w64 v → leZ (pos 0) v ≡ false → natAbs (flip v) ≤ 18446744073709551615
-neg-le {v = pos n} f e = no-way (sym e ∙ leb·zero n)
+neg-le {v = pos n} f e = wrong (sym e ∙ leb·zero n)
 neg-le {v = negsuc n} f e = omega arith
 
 pub neg-is : (v : ℤ) → leZ (pos 0) v ≡ false → 18446744073709551615 - natAbs (flip v) ≡ patternOf v
 unfolding patternOf
-neg-is (pos n) e = no-way (sym e ∙ leb·zero n)
+neg-is (pos n) e = wrong (sym e ∙ leb·zero n)
 neg-is (negsuc n) e = refl
 
 -- a pattern with its top bit set
@@ -72,5 +63,5 @@ module _ (p : ℕ) (lo : 2 ^ 63 ≤ p) (hi : p < 2 ^ 64) where
   pub high-fits : SFits w64 (negsuc 0 -ℤ toZ w64 (18446744073709551615 - p))
   high-fits = rw (high, flip-is) (omega arith)
 
-  pub high-is : toZ w64 (ofZ w64 (negsuc 0 -ℤ toZ w64 (18446744073709551615 - p))) ≡ signedOf p
-  high-is = toZ-ofZ high-fits ∙ rw (high, flip-is, signed-high p lo hi)
+  pub high-is : toZ w64 (ofZ w64 (negsuc 0 -ℤ toZ w64 (18446744073709551615 - p))) ≡ twosComplement 64 p
+  high-is = toZ-ofZ high-fits ∙ rw (high, flip-is, signed-high 64 p hi lo)

@@ -7,11 +7,11 @@ use Prim.Native.Nat.{ℕ, zero, suc, _+_, _-_, _*_, _/_, _%_, _^_}
 use lib.IntN.{pos}
 use lib.ListN.{getD}
 use Rattle.laws.specs.Answer.{Answer, accepted, refused}
+use Rattle.laws.specs.Signed.{twosComplement}
 use Rattle.insn.specs.declared.Operand.{Operand}
 use Rattle.insn.specs.declared.Operand.the-variants.{Imm, Float, Absent}
 use Rattle.fields.specs.Halfwords.{bit}
 use Rattle.immediates.specs.Floats.{floatOf, floatBits}
-use Rattle.immediates.specs.Signed.{signedOf}
 
 -- a row's constant:
 pub data Constant : Type 0 where
@@ -86,7 +86,7 @@ expandImm op cmode b = patternIn (constantAt op cmode) b
 -- the operand that the assembler writes: the element as a number, the 64-bit pattern as a signed one, or the float
 unfoldable pub operandIn : Constant → ℕ → Operand
 operandIn (byte bits place ones) b = Imm (pos (element (byte bits place ones) b))
-operandIn eachBit b = Imm (signedOf (element eachBit b))
+operandIn eachBit b = Imm (twosComplement 64 (element eachBit b))
 operandIn float b = Float (floatOf b)
 operandIn undefined b = Absent
 

@@ -9,9 +9,10 @@ use lib.Signed.{mag}
 use lib.Ieee.{Float, binary32, binary64, ofBits, eq, fits}
 use lib.Ieee.Exact.{HasValue}
 use Rattle.laws.specs.Search.{at}
+use Rattle.laws.specs.Signed.{twosComplement}
 use Rattle.tables.specs.declared.ShiftClass.the-variants.{Right, Left, Convert}
 use Rattle.immediates.specs.Shifts.{isEscape, codeOf, bitsOf, amountOf}
-use Rattle.immediates.specs.Signed.{signedOf, patternOf}
+use Rattle.immediates.specs.Signed.{patternOf}
 use Rattle.immediates.specs.Floats.{kOf, floatOf, floatBits}
 use Rattle.immediates.specs.Found.{findFloat}
 
@@ -34,10 +35,10 @@ FloatBack = (b : ℕ) → b < 256 → findFloat (floatOf b) ≡ at b
 
 -- a pattern, read as a signed number, has that pattern; a number of 64 bits is that of its pattern
 abbrev pub PatternBack : Type 0
-PatternBack = (p : ℕ) → p < 2 ^ 64 → patternOf (signedOf p) ≡ p
+PatternBack = (p : ℕ) → p < 2 ^ 64 → patternOf (twosComplement 64 p) ≡ p
 
 abbrev pub SignedBack : Type 0
-SignedBack = (v : ℤ) → mag v < 2 ^ 63 → signedOf (patternOf v) ≡ v
+SignedBack = (v : ℤ) → mag v < 2 ^ 63 → twosComplement 64 (patternOf v) ≡ v
 
 -- where L and imm6 encode an element size, a right (or narrowing) amount is 1 to its bits, and a left (or lengthening) one below them
 abbrev pub RightAmounts : Type 0

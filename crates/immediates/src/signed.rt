@@ -1,10 +1,11 @@
 // A 64-bit pattern as a signed number, and back.
 ghost use mathlib.Core.Path.{_≡_};
-ghost use Rattle.immediates.specs.Signed.{signedOf, patternOf};
+ghost use Rattle.laws.specs.Signed.{twosComplement};
+ghost use Rattle.immediates.specs.Signed.{patternOf};
 
 // The number whose two's complement is p.
 pub fn signed_of(p: u64) -> i64
-    ensures { λ r. ⌜ r ≡ signedOf p ⌝ }
+    ensures { λ r. ⌜ r ≡ twosComplement 64 p ⌝ }
 {
     if p < 0x8000_0000_0000_0000 {
         return p as i64;

@@ -4,6 +4,7 @@ use mathlib.Core.Path.{refl}
 use Prim.Native.Nat.{_/_}
 use native.Mathlib.Nat.{lt-of-lt-of-le, mul-div-le}
 use lib.Pow.{pow-mono}
+use Rattle.laws.specs.Signed.{twosComplement}
 use Rattle.lanes.specs.declared.Width.the-variants.{B8, B16, B32, B64}
 use Rattle.lanes.specs.Lane.{readAs, modulo, greater, lesser, onesIf, exact, laneOf, lanewise, bitsOf, lanesOf}
 use Rattle.lanes.specs.Promises.{EachLane, Split, Row, LaneBelow, LanesBelow, ReadBack, Worked}
@@ -37,5 +38,5 @@ pub readBack : ReadBack
 readBack = signs.again
 
 pub worked : Worked
-unfolding readAs modulo greater lesser onesIf laneOf lanewise lanesOf
+unfolding twosComplement readAs modulo greater lesser onesIf laneOf lanewise lanesOf
 worked = (refl, refl, refl, refl, refl, refl, refl, refl, refl, refl, refl, refl, refl, refl, refl, refl, refl, refl)

@@ -2,14 +2,15 @@
 -- Assumes nothing.
 use mathlib.Core.Path.{_≡_, refl, sym, _∙_, ap}
 use mathlib.Core.Bool.{Bool, true, false, not}
-use Prim.Native.Nat.{ℕ, zero, suc, _+_, _-_, _*_, _/_, _%_, _^_, _≤_, _<_, zero-le}
-use native.Mathlib.Nat.{mod-eq-of-lt, mod-lt, mod-add-mod, add-mod-mod, add-mod-right, add-mul-mod-self-right, div-add-mod', lt-of-le-of-lt, sub-zero, add-zero, add-mul, suc-mul, mul-le-mul-right}
+use Prim.Native.Nat.{ℕ, suc, _+_, _-_, _*_, _/_, _%_, _^_, _≤_, _<_}
+use native.Mathlib.Nat.{mod-eq-of-lt, mod-lt, mod-add-mod, add-mod-mod, add-mod-right, add-mul-mod-self-right, div-add-mod', lt-of-le-of-lt, add-mul, suc-mul, mul-le-mul-right}
 use native.Mathlib.Omega.{arith}
 use lib.Pow.{pow-pos, pow-add, shl-lt, shl-shr, shr-le, high, ones-lt, ones-sub-lt}
-use lib.IntN.{ℤ, pos, negsuc, subℕ, _-ℤ_}
+use lib.IntN.{ℤ, pos, negsuc, _-ℤ_}
 use lib.Signed.{mag, ltZ, leZ, shrZ}
 use borrow.Author.Tests.{lt-ltb, le-ltb, le-leb, lt-leb}
 use Rattle.laws.specs.Choice.{choose}
+use Rattle.laws.proofs.Signed.{minus-is, signed-low, signed-high}
 use Rattle.lanes.specs.declared.Sign.{Sign}
 use Rattle.lanes.specs.declared.Sign.the-variants.{Unsigned, Signed}
 use Rattle.lanes.specs.Lane.{readAs, modulo, onesIf}
@@ -20,11 +21,6 @@ pub modulo-lt : (w : ℕ) (z : ℤ) → modulo w z < 2 ^ w
 unfolding modulo
 modulo-lt w (pos n) = mod-lt n (pow-pos w)
 modulo-lt w (negsuc n) = ones-sub-lt w (n % 2 ^ w)
-
--- a difference of two numbers from 0, by its sign
-minus-is : (a b : ℕ) → pos a -ℤ pos b ≡ subℕ a b
-minus-is a zero = rw (le-ltb a 0 zero-le, add-zero, sub-zero)
-minus-is a (suc b) = refl
 
 module _ (w a b : ℕ) where
   minus-up : b ≤ a → modulo w (pos a -ℤ pos b) ≡ (a - b) % 2 ^ w
@@ -63,13 +59,11 @@ minus-cut64 w a b h =
 module _ (w x : ℕ) where
   pub read-low : x < 2 ^ (w - 1) → readAs Signed w x ≡ pos x
   unfolding readAs
-  read-low h = rw (lt-ltb x (2 ^ (w - 1)) h)
+  read-low h = signed-low w x h
 
   pub read-high : x < 2 ^ w → 2 ^ (w - 1) ≤ x → readAs Signed w x ≡ negsuc (2 ^ w - 1 - x)
   unfolding readAs
-  read-high l h =
-      let e : 2 ^ w - suc x ≡ 2 ^ w - 1 - x = omega arith in
-      rw (le-ltb x (2 ^ (w - 1)) h, minus-is x (2 ^ w), lt-ltb x (2 ^ w) l, e)
+  read-high l h = signed-high w x l h
 
   -- it fits w bits in two's complement
   pub read-fits : 0 < w → x < 2 ^ w → mag (readAs Signed w x) < 2 ^ (w - 1)

@@ -11,19 +11,11 @@ use lib.Pow.{pow-mono}
 use lib.Signed.{leZ, shrZ, mag-shr}
 use mir.Syntax.{w64}
 use mir.Val.{toZ, ofZ, SFits}
-use mir.ValLaws.{toZ-ofZ, toZ-pos, toZ-neg, sfits-le}
+use mir.ValLaws.{toZ-ofZ, toZ-pos, sfits-le}
+use Rattle.laws.proofs.Never.{wrong}
 use Rattle.lanes.specs.declared.Sign.the-variants.{Signed}
 use Rattle.lanes.specs.Lane.{readAs}
-use Rattle.lanes.proofs.Signs.{read-low, read-high, read-fits}
-
--- a word below 2^63, and one from there on, as the code makes it an i64
-pub low-is : (x : ℕ) → x < 2 ^ 63 → toZ w64 x ≡ readAs Signed 64 x
-low-is x l = toZ-pos w64 x l ∙ sym (read-low 64 x l)
-
-pub high-is : (x : ℕ) → x < 2 ^ 64 → 2 ^ 63 ≤ x → toZ w64 (18446744073709551615 - (18446744073709551615 - x)) ≡ readAs Signed 64 x
-high-is x b l =
-    let e : 18446744073709551615 - (18446744073709551615 - x) ≡ 18446744073709551616 - suc (18446744073709551615 - x) = omega arith in
-    ap (λ (n : ℕ). toZ w64 n) e ∙ toZ-neg w64 (18446744073709551615 - x) (omega arith) ∙ sym (read-high 64 x b l)
+use Rattle.lanes.proofs.Signs.{read-fits}
 
 module _ (w x : ℕ) (z : 0 < w) (h : w ≤ 64) where
   -- a signed lane is an i64 for every width, and so is what a right shift leaves of it
@@ -39,15 +31,12 @@ module _ (w x : ℕ) (z : 0 < w) (h : w ≤ 64) where
       ∙ toZ-ofZ w64 (shrZ (readAs Signed w x) m) (sfits-le (mag-shr (readAs Signed w x) m) (lane-fits b))
 
 -- an i64 by the sign that a test found
-no-bool : {A : Type 0} → false ≡ true → A
-no-bool {A} e = let z : _≡_ {A = ℕ} 0 1 = cc in absurd (let b : ⊥ = omega arith in b)
-
 pub not-negative : (z : ℤ) → SFits w64 z → leZ (pos 0) (toZ w64 (ofZ w64 z)) ≡ true → (n : ℕ) × (z ≡ pos n) × (toZ w64 (ofZ w64 z) ≡ pos n) × (n < 2 ^ 63)
 not-negative (pos n) s t = (n, refl, toZ-pos w64 n (s .sfits), s .sfits)
-not-negative (negsuc n) s t = no-bool (rw (toZ-ofZ w64 (negsuc n) s) at t)
+not-negative (negsuc n) s t = wrong (rw (toZ-ofZ w64 (negsuc n) s) at t)
 
 pub negative : (z : ℤ) → SFits w64 z → leZ (pos 0) (toZ w64 (ofZ w64 z)) ≡ false → (n : ℕ) × (z ≡ negsuc n) × (toZ w64 (18446744073709551615 - ofZ w64 z) ≡ pos n) × (n < 2 ^ 63)
-negative (pos n) s t = no-bool (sym (ap (λ (y : ℤ). leZ (pos 0) y) (sym (toZ-ofZ w64 (pos n) s)) ∙ t) ∙ leb·zero n)
+negative (pos n) s t = wrong (sym (ap (λ (y : ℤ). leZ (pos 0) y) (sym (toZ-ofZ w64 (pos n) s)) ∙ t) ∙ leb·zero n)
 negative (negsuc n) s t =
     let h = s .sfits in
     let e : 18446744073709551615 - (18446744073709551616 - suc n) ≡ n = omega arith in

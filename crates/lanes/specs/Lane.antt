@@ -3,11 +3,12 @@
 -- Assumes nothing.
 use Prim.Native.Nat.{ℕ, zero, suc, _+_, _-_, _*_, _/_, _%_, _^_}
 use mathlib.Core.Bool.{Bool, not}
-use lib.Dec.{ltb, eqb}
+use lib.Dec.{eqb}
 use lib.Bits.{bitAnd}
 use lib.IntN.{ℤ, pos, negsuc, _+ℤ_, _-ℤ_, _*ℤ_}
 use lib.Signed.{ltZ, leZ, shrZ}
 use Rattle.laws.specs.Choice.{choose}
+use Rattle.laws.specs.Signed.{twosComplement}
 use Rattle.lanes.specs.declared.Width.{Width}
 use Rattle.lanes.specs.declared.Width.the-variants.{B8, B16, B32, B64}
 use Rattle.lanes.specs.declared.Sign.{Sign}
@@ -18,7 +19,7 @@ use Rattle.lanes.specs.declared.LaneOp.the-variants.{Add, Sub, Mul, Mla,
 -- a lane x of w bits as a whole number: from 0, or in two's complement
 unfoldable pub readAs : Sign → ℕ → ℕ → ℤ
 readAs Unsigned w x = pos x
-readAs Signed w x = choose (ltb x (2 ^ (w - 1))) (pos x) (pos x -ℤ pos (2 ^ w))
+readAs Signed w x = twosComplement w x
 
 -- a whole number modulo 2^w, from 0 to 2^w - 1; negsuc n is -(n + 1)
 unfoldable pub modulo : ℕ → ℤ → ℕ

@@ -2,29 +2,19 @@
 use crate::Sign;
 use crate::arith::cut;
 use crate::arith::ones;
+use immediates::signed::signed_of;
 ghost use mathlib.Core.Path.{_≡_};
 ghost use Prim.Native.Nat.{_^_, _<_, _≤_};
 ghost use lib.Signed.{ltZ, shrZ};
 ghost use Rattle.lanes.specs.declared.Sign.the-variants.{Signed};
 ghost use Rattle.lanes.specs.Lane.{readAs, modulo, greater, lesser};
 
-// A word in two's complement.
-fn word(x: u64) -> i64
-    ensures { λ r. ⌜ r ≡ readAs Signed 64 x ⌝ }
-{
-    if x < 0x8000_0000_0000_0000 {
-        x as i64
-    } else {
-        !((u64::MAX - x) as i64)
-    }
-}
-
 // A lane in two's complement: its top bit goes to the top of a word, and the shift back copies it.
 fn signed(w: u32, x: u64) -> i64
     requires { ⌜ ((0 < w) × (w ≤ 64)) × (x < 2 ^ w) ⌝ }
     ensures { λ r. ⌜ r ≡ readAs Signed w x ⌝ }
 {
-    word(x << (64 - w)) >> (64 - w)
+    signed_of(x << (64 - w)) >> (64 - w)
 }
 
 // The lane of a whole number.

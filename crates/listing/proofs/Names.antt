@@ -1,6 +1,6 @@
 -- No mnemonic's spelling has a space in it, so that the first space of its row ends it.
 -- Assumes nothing.
-use mathlib.Core.Path.{_≡_, refl, sym, subst, ap, _∙_}
+use mathlib.Core.Path.{_≡_, refl, sym, ap, _∙_}
 use mathlib.Core.Logic.{_≢_}
 use mathlib.Core.Bool.{Bool, true, false}
 use mathlib.Core.List.{List, [], _∷_}
@@ -8,18 +8,16 @@ use Prim.Native.Nat.{ℕ, zero, suc, _+_, _-_, _*_, _<_, _≤_}
 use Prim.Native.String.{String}
 use native.Mathlib.Nat.{add-zero, not-suc-le-zero, le-of-suc-le-suc}
 use native.Mathlib.Omega.{arith}
-use lib.Dec.{T, eqb, leb, ltb}
+use lib.Dec.{eqb, leb, ltb}
 use lib.ListN.{length, getD, take, drop, length-drop, List·getD-eq-default}
 use lib.Seq.{getD-drop}
 use borrow.Author.Tests.{eq-eqb, leb-true, ltb-true, ltb-false}
 use Rattle.laws.specs.Choice.{choose}
 use Rattle.laws.proofs.Range.{values, agree}
+use Rattle.laws.proofs.Never.{wrong}
 use Rattle.tables.specs.Names.{names, nameOf, codes, nameByte, NameTable}
 use Rattle.tables.proofs.Spellings.{short}
 use Rattle.listing.proofs.Sets.{take-four}
-
-no-way : {A : Type 0} → false ≡ true → A
-no-way e = absurd (subst T (sym e) tt)
 
 plain : List ℕ → Bool
 plain [] = true
@@ -40,21 +38,21 @@ plain-name (s ∷ ss) zero e = go (plain (codes s)) refl e
   where
     go : (b : Bool) → plain (codes s) ≡ b → choose b (all-plain ss) false ≡ true → plain (codes s) ≡ true
     go true q e = q
-    go false q e = no-way e
+    go false q e = wrong e
 plain-name (s ∷ ss) (suc m) e = go (plain (codes s)) e (plain-name ss m)
   where
     go : (b : Bool) → choose b (all-plain ss) false ≡ true → (all-plain ss ≡ true → plain (codes (getD ss m "")) ≡ true) → plain (codes (getD ss m "")) ≡ true
     go true e i = i e
-    go false e i = no-way e
+    go false e i = wrong e
 
 plain-byte : (l : List ℕ) (j : ℕ) → plain l ≡ true → j < length l → getD l j 32 ≢ 32
 unfolding plain
 plain-byte [] j e h = absurd (not-suc-le-zero h)
-plain-byte (b ∷ l) zero e h = λ q. no-way (ap (λ (t : Bool). choose t false (plain l)) (sym (eq-eqb b 32 q)) ∙ e)
+plain-byte (b ∷ l) zero e h = λ q. wrong (ap (λ (t : Bool). choose t false (plain l)) (sym (eq-eqb b 32 q)) ∙ e)
 plain-byte (b ∷ l) (suc j) e h = go (eqb b 32) e (plain-byte l j)
   where
     go : (t : Bool) → choose t false (plain l) ≡ true → (plain l ≡ true → j < length l → getD l j 32 ≢ 32) → getD l j 32 ≢ 32
-    go true e i = no-way e
+    go true e i = wrong e
     go false e i = i e (le-of-suc-le-suc h)
 
 -- a space is past the end

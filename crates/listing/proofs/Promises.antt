@@ -10,17 +10,17 @@ use lib.Ieee.{eq, odd}
 use lib.ListN.{length, length-append}
 use Rattle.laws.specs.Answer.{Answer, accepted, refused}
 use Rattle.laws.specs.Choice.{choose}
+use Rattle.laws.specs.Search.{firstFrom}
+use Rattle.laws.specs.Signed.{twosComplement}
 use Rattle.tables.specs.Modimm.{modimm}
 use Rattle.tables.specs.Names.{names, nameOf, numberOf, pairwise, codes}
 use Rattle.tables.specs.Same3.{same3}
-use Rattle.laws.specs.Search.{firstFrom}
 use Rattle.tables.specs.Shift.{shiftRows, shiftCells, shiftClasses, vmovl}
 use Rattle.fields.specs.Registers.{vecOf}
 use Rattle.immediates.specs.Floats.{floatOf}
 use Rattle.immediates.specs.Found.{findFloat}
 use Rattle.immediates.specs.Modified.{constantAt, element, operandIn, needsNonzero}
 use Rattle.immediates.specs.Shifts.{isEscape, codeOf, rightEnd, leftStart}
-use Rattle.immediates.specs.Signed.{signedOf}
 use Rattle.decode.specs.Operands.{two, three}
 use Rattle.decode.specs.Same3.{same3Of, same3Reading}
 use Rattle.decode.specs.Shift.{forbidden, columnOf, shiftOf, shiftReading}
@@ -86,5 +86,5 @@ neverLonger bytes = go (isListable (length bytes)) refl
     go false e = omega arith
 
 pub sample : Sample
-unfolding digits decimal minus signed hex4 overText operandText joined insnText readingText lineText pairLine below isListable lines text codes findFloat firstFrom eq reading inFamily familyOf same3Of same3Reading shiftOf shiftReading modimmOf modimmReading two three same3 shiftRows shiftCells shiftClasses forbidden columnOf vmovl modimm names nameOf numberOf pairwise vecOf isEscape codeOf rightEnd leftStart constantAt element operandIn needsNonzero signedOf floatOf odd
+unfolding digits decimal minus signed hex4 overText operandText joined insnText readingText lineText pairLine below isListable lines text codes findFloat firstFrom eq reading inFamily familyOf same3Of same3Reading shiftOf shiftReading modimmOf modimmReading two three same3 shiftRows shiftCells shiftClasses forbidden columnOf vmovl modimm names nameOf numberOf pairwise vecOf isEscape codeOf rightEnd leftStart constantAt element operandIn needsNonzero twosComplement floatOf odd
 sample = refl

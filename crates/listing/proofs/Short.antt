@@ -14,6 +14,8 @@ use lib.Text.{eqt}
 use borrow.Author.Tests.{leb-true, ltb-true}
 use Rattle.laws.specs.Answer.{Answer, accepted, refused}
 use Rattle.laws.specs.Choice.{choose}
+use Rattle.laws.specs.Search.{Found, at, none}
+use Rattle.laws.specs.Signed.{twosComplement}
 use Rattle.laws.proofs.Range.{values, agree, agree2}
 use Rattle.insn.specs.declared.Insn.{Insn}
 use Rattle.insn.specs.declared.Mark.{Mark}
@@ -23,7 +25,6 @@ use Rattle.insn.specs.declared.Operand.the-variants.{D, Q, S, Imm, Float, Other
 use Rattle.tables.specs.Cells.{cellAt}
 use Rattle.tables.specs.Modimm.{modimm}
 use Rattle.tables.specs.Names.{codes, nameOf, numberOf, pairwise}
-use Rattle.laws.specs.Search.{Found, at, none}
 use Rattle.tables.specs.Shift.{shiftCells, vmovl}
 use Rattle.tables.specs.declared.DiffShape.{DiffShape}
 use Rattle.tables.specs.declared.DiffShape.the-variants.{Long as LongRow, Wide, Narrow as NarrowRow}
@@ -35,7 +36,6 @@ use Rattle.immediates.specs.Floats.{kOf}
 use Rattle.immediates.specs.Found.{findFloat}
 use Rattle.immediates.specs.Modified.{constantAt, element, operandIn, modimmOperand, needsNonzero}
 use Rattle.immediates.specs.Shifts.{codeOf, rightEnd, leftStart, amountOf}
-use Rattle.immediates.specs.Signed.{signedOf}
 use Rattle.decode.specs.Operands.{both, two, three}
 use Rattle.decode.specs.Same3.{shiftsByRegister, same3Of, same3Reading}
 use Rattle.decode.specs.Diff.{shaped, diffOf, diffReading}
@@ -209,7 +209,7 @@ shift-short class u row quad l imm6 d m address hl hi hd hm =
 
 -- of op, cmode and imm8, by one number
 immediate-small : (t : ℕ) → t < 8192 → small (modimmOperand (t / 4096) (t / 256 % 16) (t % 256)) ≡ true
-unfolding values small constantAt element operandIn signedOf
+unfolding values small constantAt element operandIn twosComplement
 immediate-small = agree (λ (t : ℕ). small (modimmOperand (t / 4096) (t / 256 % 16) (t % 256))) (λ (t : ℕ). true) 8192 refl
 
 modimm-short : (op cmode imm8 : ℕ) (quad : Bool) (d address : ℕ) → op < 2 → cmode < 16 → imm8 < 256 → d < 32 → Short (modimmOf op cmode imm8 quad d address)

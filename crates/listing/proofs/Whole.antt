@@ -1,22 +1,20 @@
 -- A length that is listed, and a listing that fits the buffer or does not.
 -- Assumes nothing.
-use mathlib.Core.Path.{_≡_, refl, sym, subst, _∙_}
+use mathlib.Core.Path.{_≡_, refl, _∙_}
 use mathlib.Core.Bool.{Bool, true, false}
 use mathlib.Core.List.{List}
 use Prim.Native.Nat.{ℕ, _+_, _%_, _<_, _≤_}
 use native.Mathlib.Nat.{zero-add}
 use native.Mathlib.Omega.{arith}
-use lib.Dec.{T, eqb, leb}
+use lib.Dec.{eqb, leb}
 use lib.ListN.{length}
 use lib.Seq.{sets, sets-eq}
 use borrow.Author.Tests.{leb-true, le-leb, lt-leb}
 use Rattle.laws.specs.Answer.{accepted, refused}
 use Rattle.laws.specs.Choice.{choose}
+use Rattle.laws.proofs.Never.{wrong}
 use Rattle.listing.specs.Answers.{lengthFor, outAfter}
 use Rattle.listing.specs.Listing.{isListable}
-
-no-way : {A : Type 0} → false ≡ true → A
-no-way e = absurd (subst T (sym e) tt)
 
 pub listable : (n : ℕ) → isListable n ≡ true → n ≤ 65536
 unfolding isListable
@@ -24,7 +22,7 @@ listable n e = go (eqb (n % 4) 0) e
   where
     go : (t : Bool) → choose t (leb n 65536) false ≡ true → n ≤ 65536
     go true q = leb-true n 65536 q
-    go false q = no-way q
+    go false q = wrong q
 
 pub fits : (text out l : List ℕ) (r : ℕ) → r ≡ 0 + length text → r ≤ length out → l ≡ sets out 0 text → (accepted r ≡ lengthFor text out) × (l ≡ outAfter text out)
 unfolding lengthFor outAfter

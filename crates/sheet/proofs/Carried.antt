@@ -12,16 +12,16 @@ use lib.Text.{eqt}
 use borrow.Author.Tests.{lt-ltb, ltb-true, ne-eqb}
 use Rattle.laws.specs.Answer.{accepted}
 use Rattle.laws.specs.Choice.{choose}
-use Rattle.laws.proofs.Range.{values, agree, agree2}
-use Rattle.insn.specs.declared.Operand.the-variants.{Imm}
 use Rattle.laws.specs.Search.{Found, at, none, firstBelow}
+use Rattle.laws.specs.Signed.{twosComplement}
+use Rattle.laws.proofs.Range.{values, agree, agree2}
+use Rattle.laws.proofs.Search.{all-fail}
+use Rattle.insn.specs.declared.Operand.the-variants.{Imm}
 use Rattle.tables.specs.Modimm.{modimm}
 use Rattle.tables.specs.declared.ShiftClass.the-variants.{Right, Left}
-use Rattle.laws.proofs.Search.{all-fail}
 use Rattle.fields.specs.Halfwords.{bit, field}
 use Rattle.immediates.specs.Modified.{constantAt, element, operandIn, needsNonzero}
 use Rattle.immediates.specs.Shifts.{isEscape, codeOf, rightEnd, leftStart}
-use Rattle.immediates.specs.Signed.{signedOf}
 use Rattle.decode.specs.Shift.{forbidden, columnOf}
 use Rattle.encode.specs.Forms.{orNine}
 use Rattle.encode.specs.Modimm as modified
@@ -113,5 +113,5 @@ join-carried k b hk hb n =
 
 -- VMOV.I64 of the mask stands at op 1, cmode 1110
 pub mask-carried : (t : ℕ) × (immediateIn "vmov.i64" (Imm (pos 4294967295)) ≡ accepted t)
-unfolding modified.readsAs modimm constantAt element operandIn needsNonzero signedOf
+unfolding modified.readsAs modimm constantAt element operandIn needsNonzero twosComplement
 mask-carried = number-carried "vmov.i64" 4294967295 7695 refl (omega arith) refl

@@ -4,12 +4,13 @@ use mathlib.Core.Path.{sym, _∙_}
 use mir.Facts.{toZ-pos}
 use mir.Syntax.{w64}
 use borrow.Author.Needs.{needs}
-use Rattle.immediates.proofs.Signs.{signed-low, high-fits, high-is}
+use Rattle.laws.proofs.Signed.{signed-low}
+use Rattle.immediates.proofs.Signs.{high-fits, high-is}
 use Rattle.immediates.proofs.signed.signed_of.Statement.{statement}
 use Rattle.immediates.proofs.signed.signed_of.Tie as tie
 
 returns : tie.Need-returns
-returns c = toZ-pos w64 (c .if1 .taken) ∙ sym (signed-low (c .before .args .p) (c .if1 .taken))
+returns c = toZ-pos w64 (c .if1 .taken) ∙ sym (signed-low 64 (c .before .args .p) (c .if1 .taken))
 
 sub-result-2 : tie.Need-sub-result-2
 sub-result-2 c = high-fits (c .before .args .p) (c .if1 .left) (c .before .fits .p .fits)

@@ -9,14 +9,15 @@ use lib.Signed.{shrZ}
 use mir.Syntax.{w64}
 use mir.Val.{toZ, ofZ}
 use borrow.Author.Needs.{needs}
+use Rattle.laws.specs.Signed.{twosComplement}
 use Rattle.lanes.specs.Lane.{readAs}
-use Rattle.lanes.specs.declared.Sign.the-variants.{Signed}
 use Rattle.lanes.proofs.Signs.{extended}
 use Rattle.lanes.proofs.Words.{shift-is}
 use Rattle.lanes.proofs.whole.signed.Statement.{statement}
 use Rattle.lanes.proofs.whole.signed.Tie as tie
 
 pub signed-spec : {M : Type 1} → statement M
+unfolding readAs
 signed-spec =
     tie.close
     (tie.spec
@@ -31,6 +32,6 @@ signed-spec =
     let j = 64 - a .w in
     let y = a .x * 2 ^ j in
     let s = shl-exact (a .w) j 64 (omega arith) (omega arith) in
-    ap (λ (z : ℤ). toZ w64 (ofZ w64 (shrZ (toZ w64 (ofZ w64 z)) (2 ^ j)))) (c .word .ensures ∙ ap (readAs Signed 64) s)
+    ap (λ (z : ℤ). toZ w64 (ofZ w64 (shrZ (toZ w64 (ofZ w64 z)) (2 ^ j)))) (c .signed-of .ensures ∙ ap (twosComplement 64) s)
     ∙ shift-is 64 y (omega arith) (omega arith) (2 ^ j) (omega (arith, s, c .before .fits .x))
     ∙ extended (a .w) (a .x) (omega arith) (omega arith) (omega arith)))
