@@ -1,12 +1,13 @@
 -- A float that is not itself is not a number.
 -- Assumes nothing.
-use mathlib.Core.Path.{_≡_, refl, sym, subst, _∙_}
+use mathlib.Core.Path.{_≡_, refl, sym, _∙_}
 use mathlib.Core.Bool.{Bool, true, false, not, _&&_, _||_, Bool·beq}
 use Prim.Native.Nat.{ℕ, _*_, _%_, _<_, _≤_}
 use lib.Dec.{T, eqb, ltb}
 use lib.Ieee.{Float, nan, inf, fin, eq, isNan, up, down, binary64, ofBits, nanBits}
 use lib.Ieee.Bits.{nanBits-is, nanBits-above}
 use borrow.Author.Tests.{eq-eqb, lt-ltb, le-ltb}
+use Rattle.laws.proofs.Never.{wrong}
 
 same : (s : Bool) → Bool·beq s s ≡ true
 same true = refl
@@ -17,25 +18,22 @@ finite s a = rw (eq-eqb a a refl, same s)
 
 pub is-number : (x : Float) → eq x x ≡ true → T (not (isNan x))
 unfolding eq isNan
-is-number nan e = absurd (subst T (sym e) tt)
+is-number nan e = wrong e
 is-number (inf s) e = tt
 is-number (fin s m k) e = tt
-
-never : {A : Type 0} → true ≡ false → A
-never e = absurd (subst T e tt)
 
 pub not-a-number : (x : Float) → eq x x ≡ false → x ≡ nan
 unfolding eq
 not-a-number nan e = refl
-not-a-number (inf s) e = never (sym (same s) ∙ e)
-not-a-number (fin s m k) e = never (sym (finite s (m * up k * down k)) ∙ e)
+not-a-number (inf s) e = wrong (sym e ∙ same s)
+not-a-number (fin s m k) e = wrong (sym e ∙ finite s (m * up k * down k))
 
 -- a not-a-number is the one that there is
 pub the-nan : (x : Float) → isNan x ≡ true → nan ≡ x
 unfolding isNan
 the-nan nan e = refl
-the-nan (inf s) e = never (sym e)
-the-nan (fin s m k) e = never (sym e)
+the-nan (inf s) e = wrong e
+the-nan (fin s m k) e = wrong e
 
 -- 64 bits are a not-a-number's where they are above infinity's
 pub above : (n : ℕ) → nanBits binary64 n ≡ ltb 0x7ff0_0000_0000_0000 (n % 0x8000_0000_0000_0000)

@@ -1,4 +1,4 @@
--- A signed number's 64 bits; two's complement the other way is the base crate's.
+-- The 64 bits of a signed number. From the bits to the number it is `twosComplement 64`, which laws has.
 -- Assumes nothing.
 use Prim.Native.Nat.{ℕ, _-_, _^_}
 use lib.IntN.{ℤ, pos, negsuc}

@@ -1,13 +1,13 @@
 -- How long the texts are: that of a reading has at most 38 bytes, that of a pair's line 54.
 -- Assumes nothing.
-use mathlib.Core.Path.{_≡_, refl, sym, subst}
+use mathlib.Core.Path.{_≡_, refl}
 use mathlib.Core.Bool.{Bool, true, false}
 use mathlib.Core.List.{_∷_, _++_}
 use Prim.Native.Nat.{ℕ, suc, _+_, _*_, _/_, _%_, _^_, _<_, _≤_}
 use Prim.Native.String.{String}
 use native.Mathlib.Nat.{mul-le-mul}
 use native.Mathlib.Omega.{arith}
-use lib.Dec.{T, leb, ltb, eqb}
+use lib.Dec.{leb, ltb, eqb}
 use lib.IntN.{pos, negsuc}
 use lib.ListN.{length, length-append}
 use lib.Text.{eqt}
@@ -17,6 +17,7 @@ use Rattle.laws.specs.Choice.{choose}
 use Rattle.laws.specs.Search.{Found, at, none}
 use Rattle.laws.specs.Signed.{twosComplement}
 use Rattle.laws.proofs.Range.{values, agree, agree2}
+use Rattle.laws.proofs.Never.{wrong}
 use Rattle.insn.specs.declared.Insn.{Insn}
 use Rattle.insn.specs.declared.Mark.{Mark}
 use Rattle.insn.specs.declared.Mark.the-variants.{T1}
@@ -84,7 +85,7 @@ operand-short : (o : Operand) → small o ≡ true → length (operandText o) �
 unfolding operandText small signed
 operand-short (D n) e = omega (arith, within 1 n (omega (arith, ltb-true n 32 e)))
 operand-short (Q n) e = omega (arith, within 1 n (omega (arith, ltb-true n 32 e)))
-operand-short (S n) e = absurd (subst T (sym e) tt)
+operand-short (S n) e = wrong e
 operand-short (Imm (pos n)) e = omega (arith, within 18 n (ltb-true n (10 ^ 19) e))
 operand-short (Imm (negsuc n)) e = omega (arith, within 18 (suc n) (ltb-true (suc n) (10 ^ 19) e))
 operand-short (Float x) e = omega (arith, over-short (findFloat x))

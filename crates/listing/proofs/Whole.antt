@@ -12,7 +12,7 @@ use lib.Seq.{sets, sets-eq}
 use borrow.Author.Tests.{leb-true, le-leb, lt-leb}
 use Rattle.laws.specs.Answer.{accepted, refused}
 use Rattle.laws.specs.Choice.{choose}
-use Rattle.laws.proofs.Never.{wrong}
+use Rattle.laws.proofs.Never.{never, wrong}
 use Rattle.listing.specs.Answers.{lengthFor, outAfter}
 use Rattle.listing.specs.Listing.{isListable}
 
@@ -44,4 +44,4 @@ length-fits text out k e = go (leb (length text) (length out)) refl e
   where
     go : (t : Bool) → leb (length text) (length out) ≡ t → accepted k ≡ choose t (accepted (length text)) (refused 14) → k ≤ length out
     go true q e = let s : k ≡ length text = cc in omega (arith, leb-true (length text) (length out) q)
-    go false q e = let z : _≡_ {A = ℕ} 0 1 = cc in absurd (let w : ⊥ = omega arith in w)
+    go false q e = never (cc)

@@ -7,6 +7,7 @@ use lib.Dec.{T, ltb}
 use lib.ListN.{List·getD-eq-default}
 use native.Mathlib.Omega.{arith}
 use borrow.Author.Tests.{ltb-true, ltb-false}
+use Rattle.laws.proofs.Never.{wrong}
 use Rattle.sheet.specs.declared.steps.Step.{Step}
 use Rattle.sheet.specs.Rules.{bits, none, Uses, uses, table, usesOf, keepsRows, keepsNumbers, keeps}
 use Rattle.sheet.proofs.Columns.{widths}
@@ -24,7 +25,7 @@ pub record Kept (u : Uses) (s : Step) : Type 0 where
 
 two : (p q : Bool) → p && q ≡ true → (p ≡ true) × (q ≡ true)
 two true q e = (refl, e)
-two false q e = absurd (subst T (sym e) tt)
+two false q e = wrong e
 
 pub kept-by : (u : Uses) (s : Step) → keepsRows u s ≡ true → keepsNumbers u s ≡ true → Kept u s
 unfolding keepsRows keepsNumbers

@@ -11,7 +11,7 @@ use lib.Text.{eqt, eqt→eq}
 use borrow.Author.Tests.{ltb-true, ltb-false}
 use Rattle.laws.specs.Choice.{choose}
 use Rattle.laws.proofs.Range.{values, agree}
-use Rattle.laws.proofs.Never.{never}
+use Rattle.laws.proofs.Never.{never, wrong}
 use Rattle.tables.specs.Cells.{cellAt}
 use Rattle.tables.specs.Same3.{same3}
 use Rattle.tables.specs.Shift.{shiftRows, shiftCells, shiftClasses, vmovl}
@@ -58,7 +58,7 @@ named = agree (λ (m : ℕ). eqt (nameOf m) "") (λ (m : ℕ). false) 346 refl
 
 and-true : (a b : Bool) → and a b ≡ true → (a ≡ true) × (b ≡ true)
 and-true true b e = (refl, e)
-and-true false b e = absurd (subst T (sym e) tt)
+and-true false b e = wrong e
 
 text : (s t : String) → eqt s t ≡ true → s ≡ t
 text s t e = eqt→eq s t (subst T (sym e) tt)
