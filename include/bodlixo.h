@@ -5,11 +5,28 @@
 #include <stddef.h>
 #include <stdint.h>
 
-/* Every function answers 0, or the number of the refusal.
+/* Every function answers 0, or the number of the refusal:
+
+    reading      1  no family of instructions has the pair
+                 2  a bit that its row fixes is wrong: L of a narrowing, lengthening or conversion, or a conversion's imm6
+                 3  its cell of the table is blank
+                 4  a zero immediate where the row has none
+                 5  a pairwise (vp..) name with quadwords; in writing too
+                 6  an odd number for a quadword register
+    writing      7  no mnemonic has the number
+                 8  count, kinds, registers or their lengths are not the mnemonic's
+                 9  a number or float that no pair carries
+    running     10  the pair has no meaning for the machine; a pair that cannot be read stops a run with its own number
+                11  an odd count of halfwords, a file that is not of 32, or a start past the end
+                15  pairs remain and the budget is used up
+    sheets      12  a length that is no multiple of 24, or above 6144
+                13  a step breaks the rules; the first that does is named
+    all outputs 14  the output is too short
 
    A record is ten words: mnemonic, mark (1 or 2), address, count, then kind and value of each of three places.
    Kind: 0 absent, 1 D, 2 Q, 3 S, 4 whole number, 5 float, 6 another kind.
-   Value: the register's number, the whole number's 64 bits in two's complement, the float's IEEE 754 bits, else 0. */
+   Value: the register's number, the whole number's 64 bits in two's complement, the float's IEEE 754 bits, else 0.
+   The words of a record that was read stand for that record: written, they are the pair that was read. */
 
 /* Reads a pair at an address. On a refusal the record is untouched. */
 uint32_t bodlixo_read(uint16_t hw1, uint16_t hw2, uint32_t address, uint64_t record[10]);
@@ -18,11 +35,6 @@ uint32_t bodlixo_read(uint16_t hw1, uint16_t hw2, uint32_t address, uint64_t rec
    its field stands for a value that no pair has; the bits of a not-a-number stand for a not-a-number. */
 uint32_t bodlixo_write(const uint64_t record[10], uint16_t pair[2]);
 
-/* Lists the pairs of len bytes in out, and puts the listing's length in *length. An out that is shorter than the
-   listing is left untouched, and the answer is 14 with *length 0; 901132 bytes are always enough. Bytes that are no
-   listing's are listed as the one line that refuses them, and the answer is 0. */
-uint32_t bodlixo_list(const uint8_t *input, size_t len, uint8_t *out, size_t out_len, uint64_t *length);
-
 /* Runs the pairs of `len` halfwords, from the pair `start` on, at most `budget` of them, on a file of 32 doublewords.
    `*executed` is always set: the pairs executed, whose effect the file has. After 15 a call from start + *executed
    goes on. */
@@ -30,7 +42,18 @@ uint32_t bodlixo_run(const uint16_t *code, size_t len, uint64_t start, uint64_t 
                      uint64_t *executed);
 
 /* Translates a sum sheet of `len` bytes into `out`. `*at` is the pair count; or, after a refusal, which leaves `out`
-   untouched, the index of the step where the refusal has one, else 0. */
+   untouched, the index of the step where the refusal has one, else 0. 10240 halfwords are always enough. */
 uint32_t bodlixo_translate(const uint8_t *sheet, size_t len, uint16_t *out, size_t out_len, uint64_t *at);
+
+/* Translates a sum sheet into `out`, and runs its pairs on `file` from the first. A sheet that is refused leaves `out`
+   and `file` untouched, with `*executed` 0. `*at` is as in bodlixo_translate, and `*executed` as in bodlixo_run. Row r
+   of the sheet is file[2 * r], low, and file[2 * r + 1]. */
+uint32_t bodlixo_evaluate(const uint8_t *sheet, size_t len, uint16_t *out, size_t out_len, uint64_t *file,
+                          size_t file_len, uint64_t budget, uint64_t *executed, uint64_t *at);
+
+/* Lists the pairs of `len` bytes in `out`, and puts the listing's size in bytes in *size. An out that is shorter than
+   the listing is left untouched, and the answer is 14 with *size 0; 901132 bytes are always enough. Bytes that are no
+   listing's are listed as the one line that refuses them, and the answer is 0. */
+uint32_t bodlixo_list(const uint8_t *input, size_t len, uint8_t *out, size_t out_len, uint64_t *size);
 
 #endif

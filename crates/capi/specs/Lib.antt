@@ -1,3 +1,2 @@
-pub mod Codes
-pub mod Records
-pub mod Words
+pub mod Results
+pub mod Promises

@@ -1,28 +1,27 @@
 // The C boundary; include/bodlixo.h has the declarations.
 ghost use mathlib.Core.Path.{_≡_};
+ghost use Prim.Native.Nat.{ℕ};
 ghost use Rattle.decode.specs.Reading.{reading};
 ghost use lib.ListN.{length};
-ghost use Rattle.machine.specs.Run.{runOf};
-ghost use Rattle.sheet.specs.Translation.{translationOf, writtenOf};
+ghost use Rattle.machine.specs.Run.{Run, runOf};
+ghost use Rattle.sheet.specs.Demand3.{Demand3};
+ghost use Rattle.sheet.specs.Evaluation.{evaluationOf, fileLeft};
+ghost use Rattle.translator.specs.Translation.{translationOf, writtenOf};
 ghost use Rattle.encode.specs.Writing.{writing};
 ghost use Rattle.listing.specs.Answers.{lengthFor, outAfter};
 ghost use Rattle.listing.specs.Listing.{listing};
-ghost use Rattle.capi.specs.Codes.{codeOf, endCode, translationCode, translationAt, valueOf};
-ghost use Rattle.capi.specs.Records.{recordOf};
-ghost use Rattle.capi.specs.Words.{recordAfter, pairAfter};
+ghost use Rattle.words.specs.Records.{recordOf};
+ghost use Rattle.capi.specs.Results.{returnCode, recordAfter, pairAfter, endCode, codeAt, countOrPlace, executedOr0, acceptedOr0};
 use decode::Reading;
 use encode::Writing;
 use listing::Listed;
 use machine::Outcome;
-use sheet::Translation;
-
-mod records;
-mod words;
+use translator::Translation;
 
 // Reads a pair: 0 and its record, or the refusal's number with the record untouched.
 #[no_mangle]
 pub extern "C" fn bodlixo_read(hw1: u16, hw2: u16, address: u32, out: &mut [u64; 10]) -> u32
-    ensures code { λ r. ⌜ r ≡ codeOf (reading hw1 hw2 address) ⌝ }
+    ensures code { λ r. ⌜ r ≡ returnCode (reading hw1 hw2 address) ⌝ }
     ensures record { λ r. ⌜ now (out .exit) ≡ recordAfter (reading hw1 hw2 address) (now (out .entry)) ⌝ }
 {
     let answer = decode::read(hw1, hw2, address);
@@ -38,10 +37,10 @@ pub extern "C" fn bodlixo_read(hw1: u16, hw2: u16, address: u32, out: &mut [u64;
 // Writes a record: 0 and its pair, or the refusal's number with the pair untouched.
 #[no_mangle]
 pub extern "C" fn bodlixo_write(words: &[u64; 10], pair: &mut [u16; 2]) -> u32
-    ensures code { λ r. ⌜ r ≡ codeOf (writing (recordOf (now (words .entry)))) ⌝ }
+    ensures code { λ r. ⌜ r ≡ returnCode (writing (recordOf (now (words .entry)))) ⌝ }
     ensures pair { λ r. ⌜ now (pair .exit) ≡ pairAfter (writing (recordOf (now (words .entry)))) (now (pair .entry)) ⌝ }
 {
-    let answer = encode::write(records::record_of(words));
+    let answer = encode::write(words::records::record_of(words));
     match answer {
         Writing::Refused(f) => insn::refusal_number(f) as u32,
         Writing::Wrote(hw1, hw2) => {
@@ -76,11 +75,11 @@ pub extern "C" fn bodlixo_run(
 // Translates a sheet into the output: 0 and the pair count, or the refusal's number and its step's index, else 0.
 #[no_mangle]
 pub extern "C" fn bodlixo_translate(sheet: &[u8], out: &mut [u16], at: &mut u64) -> u32
-    ensures code { λ r. ⌜ r ≡ translationCode (translationOf (now (sheet .entry)) (length (now (out .entry)))) ⌝ }
-    ensures at { λ r. ⌜ now (at .exit) ≡ translationAt (translationOf (now (sheet .entry)) (length (now (out .entry)))) ⌝ }
+    ensures code { λ r. ⌜ r ≡ codeAt (λ (n : ℕ). 0) (translationOf (now (sheet .entry)) (length (now (out .entry)))) ⌝ }
+    ensures at { λ r. ⌜ now (at .exit) ≡ countOrPlace (translationOf (now (sheet .entry)) (length (now (out .entry)))) ⌝ }
     ensures out { λ r. ⌜ now (out .exit) ≡ writtenOf (now (sheet .entry)) (now (out .entry)) ⌝ }
 {
-    let answer = sheet::translate(sheet, out);
+    let answer = translator::translate(sheet, out);
     match answer {
         Translation::Pairs(n) => {
             *at = n;
@@ -97,21 +96,58 @@ pub extern "C" fn bodlixo_translate(sheet: &[u8], out: &mut [u16], at: &mut u64)
     }
 }
 
+// Translates a sheet into the output and runs the pairs on the file: 0 when done; or the translation's refusal, with the
+// file as it was and 0 executed; or the run's. `at` is as in `bodlixo_translate`.
+#[no_mangle]
+pub extern "C" fn bodlixo_evaluate(
+    sheet: &[u8],
+    out: &mut [u16],
+    file: &mut [u64],
+    budget: u64,
+    executed: &mut u64,
+    at: &mut u64,
+) -> u32
+    ensures code { λ r. ⌜ r ≡ codeAt (λ (r : Run). endCode (r .ending)) (evaluationOf (now (sheet .entry)) (now (out .entry)) (now (file .entry)) budget) ⌝ }
+    ensures executed { λ r. ⌜ now (executed .exit) ≡ executedOr0 (evaluationOf (now (sheet .entry)) (now (out .entry)) (now (file .entry)) budget) ⌝ }
+    ensures at { λ r. ⌜ now (at .exit) ≡ countOrPlace (translationOf (now (sheet .entry)) (length (now (out .entry)))) ⌝ }
+    ensures out { λ r. ⌜ now (out .exit) ≡ writtenOf (now (sheet .entry)) (now (out .entry)) ⌝ }
+    ensures file { λ r. ⌜ now (file .exit) ≡ fileLeft (evaluationOf (now (sheet .entry)) (now (out .entry)) (now (file .entry)) budget) (now (file .entry)) ⌝ }
+    ensures demand3 { λ r. ⌜ Demand3 (now (sheet .entry)) (now (out .entry)) (now (file .entry)) budget (now (out .exit)) (now (file .exit)) (evaluationOf (now (sheet .entry)) (now (out .entry)) (now (file .entry)) budget) ⌝ }
+{
+    let translated = translator::translate(sheet, out);
+    match translated {
+        Translation::Pairs(count) => {
+            *at = count;
+            bodlixo_run(&out[..2 * count as usize], 0, file, budget, executed)
+        }
+        Translation::Refused(cause) => {
+            *at = 0;
+            *executed = 0;
+            insn::refusal_number(cause) as u32
+        }
+        Translation::RefusedAt(cause, step) => {
+            *at = step;
+            *executed = 0;
+            insn::refusal_number(cause) as u32
+        }
+    }
+}
+
 // Lists the pairs of the input: 0 and the listing's length, or 14 and 0 with out untouched.
 #[no_mangle]
-pub extern "C" fn bodlixo_list(input: &[u8], out: &mut [u8], length: &mut u64) -> u32
-    ensures code { λ r. ⌜ r ≡ codeOf (lengthFor (listing (now (input .entry))) (now (out .entry))) ⌝ }
+pub extern "C" fn bodlixo_list(input: &[u8], out: &mut [u8], size: &mut u64) -> u32
+    ensures code { λ r. ⌜ r ≡ returnCode (lengthFor (listing (now (input .entry))) (now (out .entry))) ⌝ }
     ensures out { λ r. ⌜ now (out .exit) ≡ outAfter (listing (now (input .entry))) (now (out .entry)) ⌝ }
-    ensures length { λ r. ⌜ now (length .exit) ≡ valueOf (lengthFor (listing (now (input .entry))) (now (out .entry))) ⌝ }
+    ensures size { λ r. ⌜ now (size .exit) ≡ acceptedOr0 (lengthFor (listing (now (input .entry))) (now (out .entry))) ⌝ }
 {
     let answer = listing::list(input, out);
     match answer {
         Listed::Length(n) => {
-            *length = n as u64;
+            *size = n as u64;
             0
         }
         Listed::TooShort => {
-            *length = 0;
+            *size = 0;
             14
         }
     }

@@ -1,3 +1,4 @@
 pub mod Promises
 pub mod Starred
 pub mod Vectors
+pub mod Parts

@@ -1,7 +1,6 @@
 -- Three registers of different lengths: A7.4.2, table A7-10.
 --   hw1  1 1 1 U 1 1 1 1 1 D size Vn      hw2  Vd A N 0 M 0 Vm
 -- Assumes nothing.
-use mathlib.Core.Bool.{true, false}
 use Prim.Native.Nat.{ℕ, _+_, _*_}
 use Prim.Native.String.{String}
 use lib.ListN.{getD}
@@ -12,23 +11,21 @@ use Rattle.insn.specs.declared.Insn.{Insn}
 use Rattle.insn.specs.declared.Mark.{Mark}
 use Rattle.insn.specs.declared.Mark.the-variants.{T1}
 use Rattle.tables.specs.Cells.{cellAt}
-use Rattle.tables.specs.Names.{numberOf}
+use Rattle.names.specs.Names.{numberOf}
 use Rattle.tables.specs.Diff.{diffCells, diffShapes, diffMarks}
+use Rattle.tables.specs.Lengths.{shapeLengths}
 use Rattle.tables.specs.declared.DiffShape.{DiffShape}
-use Rattle.tables.specs.declared.DiffShape.the-variants.{Long, Wide, Narrow}
+use Rattle.tables.specs.declared.DiffShape.the-variants.{Long}
 use Rattle.fields.specs.Halfwords.{bit, field}
 use Rattle.fields.specs.Registers.{dnumOf, vecOf}
 use Rattle.decode.specs.Operands.{three}
 
--- the operands of a mnemonic, by its row's shape: long Q D D, wide Q Q D, narrow D Q Q
-unfoldable pub shaped : DiffShape → ℕ → Mark → ℕ → ℕ → ℕ → ℕ → Answer Insn
-shaped Long mnemonic mark d n m address = three mnemonic mark address (vecOf true d) (vecOf false n) (vecOf false m)
-shaped Wide mnemonic mark d n m address = three mnemonic mark address (vecOf true d) (vecOf true n) (vecOf false m)
-shaped Narrow mnemonic mark d n m address = three mnemonic mark address (vecOf false d) (vecOf true n) (vecOf true m)
-
 -- the reading of a cell's name in a row of that shape and mark: d, n and m are D:Vd, N:Vn and M:Vm
 unfoldable pub diffOf : String → DiffShape → Mark → ℕ → ℕ → ℕ → ℕ → Answer Insn
-diffOf name shape mark d n m address = choose (eqt name "") (refused 3) (shaped shape (numberOf name) mark d n m address)
+diffOf name shape mark d n m address =
+    let quad = shapeLengths shape in
+    choose (eqt name "") (refused 3)
+    (three (numberOf name) mark address (vecOf (quad .d) d) (vecOf (quad .n) n) (vecOf (quad .m) m))
 
 -- the row is U:A
 abbrev pub diffRow : ℕ → ℕ → ℕ

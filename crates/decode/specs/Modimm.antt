@@ -3,25 +3,24 @@
 -- Assumes nothing.
 use mathlib.Core.Bool.{Bool}
 use Prim.Native.Nat.{ℕ, _+_, _*_}
-use lib.Dec.{eqb}
 use lib.Text.{eqt}
 use Rattle.laws.specs.Answer.{Answer, accepted, refused}
 use Rattle.laws.specs.Choice.{choose}
 use Rattle.insn.specs.declared.Insn.{Insn}
 use Rattle.insn.specs.declared.Mark.the-variants.{T1}
 use Rattle.tables.specs.Cells.{cellAt}
-use Rattle.tables.specs.Names.{numberOf}
+use Rattle.names.specs.Names.{numberOf}
 use Rattle.tables.specs.Modimm.{modimm}
 use Rattle.fields.specs.Halfwords.{bit, field}
 use Rattle.fields.specs.Registers.{dnumOf, vecOf}
-use Rattle.immediates.specs.Modified.{modimmOperand, needsNonzero}
-use Rattle.decode.specs.Operands.{both, isSet, two}
+use Rattle.immediates.specs.Modified.{modimmOperand, zeroRefused}
+use Rattle.decode.specs.Operands.{isSet, two}
 
 -- the reading of the cell op:cmode with imm8: d is D:Vd
 unfoldable pub modimmOf : ℕ → ℕ → ℕ → Bool → ℕ → ℕ → Answer Insn
 modimmOf op cmode imm8 quad d address =
     choose (eqt (cellAt modimm op cmode) "") (refused 3)
-    (choose (both (eqb imm8 0) (needsNonzero cmode)) (refused 4)
+    (choose (zeroRefused cmode imm8) (refused 4)
     (two (numberOf (cellAt modimm op cmode)) T1 address (vecOf quad d) (accepted (modimmOperand op cmode imm8))))
 
 -- imm8 is i:imm3:imm4

@@ -1,17 +1,13 @@
 -- The record of a mnemonic and its operands, which a refused operand refuses.
 -- Assumes nothing.
-use mathlib.Core.Bool.{Bool, false}
+use mathlib.Core.Bool.{Bool}
 use Prim.Native.Nat.{ℕ}
 use lib.Dec.{eqb}
 use Rattle.laws.specs.Answer.{Answer, accepted, refused}
-use Rattle.laws.specs.Choice.{choose}
 use Rattle.insn.specs.declared.Insn.{Insn}
 use Rattle.insn.specs.declared.Mark.{Mark}
 use Rattle.insn.specs.declared.Operand.{Operand}
 use Rattle.insn.specs.declared.Operand.the-variants.{Absent}
-
-abbrev pub both : Bool → Bool → Bool
-both a b = choose a b false
 
 -- a bit that is set
 abbrev pub isSet : ℕ → Bool

@@ -4,13 +4,13 @@ use mathlib.Core.Bool.{Bool, not}
 use Prim.Native.Nat.{ℕ}
 use lib.Dec.{eqb}
 use Rattle.laws.specs.Answer.{Answer, refused}
-use Rattle.laws.specs.Choice.{choose}
+use Rattle.laws.specs.Choice.{choose, both}
 use Rattle.insn.specs.declared.Insn.{Insn}
 use Rattle.fields.specs.Halfwords.{bit, field}
 use Rattle.immediates.specs.Shifts.{isEscape}
 use Rattle.decode.specs.declared.Family.{Family}
 use Rattle.decode.specs.declared.Family.the-variants.{ThreeSame, ThreeDifferent, Shift, ModifiedImmediate, NoFamily}
-use Rattle.decode.specs.Operands.{both, isSet}
+use Rattle.decode.specs.Operands.{isSet}
 use Rattle.decode.specs.Same3.{same3Reading}
 use Rattle.decode.specs.Diff.{diffReading}
 use Rattle.decode.specs.Shift.{shiftReading}

@@ -7,15 +7,15 @@ use Prim.Native.String.{String}
 use lib.Dec.{eqb}
 use lib.Text.{eqt}
 use Rattle.laws.specs.Answer.{Answer, refused}
-use Rattle.laws.specs.Choice.{choose}
+use Rattle.laws.specs.Choice.{choose, both}
 use Rattle.insn.specs.declared.Insn.{Insn}
 use Rattle.insn.specs.declared.Mark.the-variants.{T1}
 use Rattle.tables.specs.Cells.{cellAt}
-use Rattle.tables.specs.Names.{numberOf, pairwise}
+use Rattle.names.specs.Names.{numberOf, pairwise}
 use Rattle.tables.specs.Same3.{same3}
 use Rattle.fields.specs.Halfwords.{bit, field}
 use Rattle.fields.specs.Registers.{dnumOf, vecOf}
-use Rattle.decode.specs.Operands.{both, isSet, two, three}
+use Rattle.decode.specs.Operands.{isSet, two, three}
 
 -- VSHL, VRSHL, VQSHL and VQRSHL by register, opc 4 and 5, name the register that is shifted first
 abbrev pub shiftsByRegister : ℕ → Bool

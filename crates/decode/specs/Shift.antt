@@ -14,13 +14,14 @@ use Rattle.insn.specs.declared.Mark.the-variants.{T1}
 use Rattle.insn.specs.declared.Operand.{Operand}
 use Rattle.insn.specs.declared.Operand.the-variants.{Imm}
 use Rattle.tables.specs.Cells.{cellAt}
-use Rattle.tables.specs.Names.{numberOf}
+use Rattle.names.specs.Names.{numberOf}
 use Rattle.tables.specs.Shift.{shiftCells, shiftClasses, vmovl}
+use Rattle.tables.specs.Lengths.{classLengths}
 use Rattle.tables.specs.declared.ShiftClass.{ShiftClass}
 use Rattle.tables.specs.declared.ShiftClass.the-variants.{Right, Left, Narrow, Long, Convert}
 use Rattle.fields.specs.Halfwords.{bit, field}
 use Rattle.fields.specs.Registers.{dnumOf, vecOf}
-use Rattle.immediates.specs.Shifts.{codeOf, amountOf}
+use Rattle.immediates.specs.Shifts.{amountOf, sizeCode}
 use Rattle.decode.specs.Operands.{isSet, two, three}
 
 -- narrowing, lengthening and conversion rows have L clear, and a conversion has imm6 from 32 on
@@ -33,28 +34,29 @@ forbidden Convert l imm6 = choose (isSet l) true (ltb imm6 32)
 
 -- the column: the element size, and for a conversion the first
 unfoldable pub columnOf : ShiftClass → ℕ → ℕ → ℕ
-columnOf Right l imm6 = codeOf l imm6
-columnOf Left l imm6 = codeOf l imm6
-columnOf Narrow l imm6 = codeOf l imm6
-columnOf Long l imm6 = codeOf l imm6
+columnOf Right l imm6 = sizeCode l imm6
+columnOf Left l imm6 = sizeCode l imm6
+columnOf Narrow l imm6 = sizeCode l imm6
+columnOf Long l imm6 = sizeCode l imm6
 columnOf Convert l imm6 = 0
 
 abbrev pub amount : ℕ → Answer Operand
 amount k = accepted (Imm (pos k))
 
--- a lengthening; by 0 it has the mnemonic `moved` and no amount
-unfoldable pub longOf : ℕ → ℕ → ℕ → ℕ → ℕ → ℕ → Answer Insn
-longOf mnemonic moved k d m address =
-    choose (eqb k 0) (two moved T1 address (vecOf true d) (vecOf false m))
-    (three mnemonic T1 address (vecOf true d) (vecOf false m) (amount k))
+-- a lengthening by 0 is a move
+unfoldable pub isLongByZero : ShiftClass → ℕ → Bool
+isLongByZero Right k = false
+isLongByZero Left k = false
+isLongByZero Narrow k = false
+isLongByZero Long k = eqb k 0
+isLongByZero Convert k = false
 
--- the operands of a mnemonic by its row's class: d and m are D:Vd and M:Vm
+-- the operands of a mnemonic in a row of the class: d and m are D:Vd and M:Vm; a move has the mnemonic `moved` and no amount
 unfoldable pub shifted : ShiftClass → ℕ → ℕ → Bool → ℕ → ℕ → ℕ → ℕ → Answer Insn
-shifted Right mnemonic moved quad k d m address = three mnemonic T1 address (vecOf quad d) (vecOf quad m) (amount k)
-shifted Left mnemonic moved quad k d m address = three mnemonic T1 address (vecOf quad d) (vecOf quad m) (amount k)
-shifted Narrow mnemonic moved quad k d m address = three mnemonic T1 address (vecOf false d) (vecOf true m) (amount k)
-shifted Long mnemonic moved quad k d m address = longOf mnemonic moved k d m address
-shifted Convert mnemonic moved quad k d m address = three mnemonic T1 address (vecOf quad d) (vecOf quad m) (amount k)
+shifted class mnemonic moved q k d m address =
+    let quad = classLengths class q in
+    choose (isLongByZero class k) (two moved T1 address (vecOf (quad .d) d) (vecOf (quad .m) m))
+    (three mnemonic T1 address (vecOf (quad .d) d) (vecOf (quad .m) m) (amount k))
 
 -- the reading in the row U:A:B of a class
 unfoldable pub shiftOf : ShiftClass → ℕ → ℕ → Bool → ℕ → ℕ → ℕ → ℕ → ℕ → Answer Insn

@@ -1,63 +1,15 @@
 // Three registers of different lengths.
 ghost use mathlib.Core.Path.{_≡_};
-ghost use Rattle.tables.specs.Names.{nameOf};
+ghost use Rattle.names.specs.Names.{nameOf};
 ghost use Rattle.decode.specs.Answers.{readingAnswer};
-ghost use Rattle.decode.specs.Diff.{shaped, diffOf, diffReading};
+ghost use Rattle.decode.specs.Diff.{diffOf, diffReading};
 use crate::Reading;
 use crate::operands;
 use fields::dnum;
 use insn::Mark;
 use insn::Refusal;
+use names::COUNT;
 use tables::DiffShape;
-
-// The record of a mnemonic in a row of that shape: long Q D D, wide Q Q D, narrow D Q Q.
-fn with_shape(
-    shape: DiffShape,
-    mnemonic: u16,
-    mark: Mark,
-    d: u8,
-    n: u8,
-    m: u8,
-    address: u32,
-) -> Reading
-    ensures { λ r. ⌜ readingAnswer r ≡ shaped shape mnemonic mark d n m address ⌝ }
-{
-    match shape {
-        DiffShape::Long => operands::three_registers(
-            mnemonic,
-            mark,
-            address,
-            true,
-            d,
-            false,
-            n,
-            false,
-            m,
-        ),
-        DiffShape::Wide => operands::three_registers(
-            mnemonic,
-            mark,
-            address,
-            true,
-            d,
-            true,
-            n,
-            false,
-            m,
-        ),
-        DiffShape::Narrow => operands::three_registers(
-            mnemonic,
-            mark,
-            address,
-            false,
-            d,
-            true,
-            n,
-            true,
-            m,
-        ),
-    }
-}
 
 // The reading of a mnemonic: d, n and m are the numbers of its registers.
 fn with_registers(
@@ -71,10 +23,11 @@ fn with_registers(
 ) -> Reading
     ensures { λ r. ⌜ readingAnswer r ≡ diffOf (nameOf mnemonic) shape mark d n m address ⌝ }
 {
-    if 346 <= mnemonic {
+    if COUNT <= mnemonic {
         return Reading::Refused(Refusal::BlankCell);
     }
-    with_shape(shape, mnemonic, mark, d, n, m, address)
+    let quad = tables::lengths::of_shape(shape);
+    operands::three_registers(mnemonic, mark, address, quad.d, d, quad.n, n, quad.m, m)
 }
 
 // Reads a pair of the family three-different.

@@ -1,26 +1,13 @@
 // One register and a modified immediate.
 ghost use mathlib.Core.Path.{_≡_};
 ghost use Prim.Native.Nat.{_<_};
-ghost use lib.Dec.{eqb};
-ghost use Rattle.immediates.specs.Modified.{needsNonzero};
 ghost use Rattle.decode.specs.Answers.{readingAnswer};
-ghost use Rattle.decode.specs.Operands.{both};
 ghost use Rattle.decode.specs.Modimm.{modimmOf, modimmReading};
 use crate::Reading;
 use crate::operands;
 use fields::dnum;
 use insn::Refusal;
-
-// A zero immediate in a row that needs another.
-fn is_zero_refused(cmode: u8, imm8: u8) -> bool
-    ensures { λ r. ⌜ r ≡ both (eqb imm8 0) (needsNonzero cmode) ⌝ }
-{
-    if imm8 == 0 {
-        immediates::modified::modimm_needs_nonzero(cmode)
-    } else {
-        false
-    }
-}
+use names::COUNT;
 
 // The reading of the cell op:cmode with an immediate: d is the number of the register.
 fn with_register(op: u8, cmode: u8, imm8: u8, quad: bool, d: u8, address: u32) -> Reading
@@ -28,10 +15,10 @@ fn with_register(op: u8, cmode: u8, imm8: u8, quad: bool, d: u8, address: u32) -
     ensures { λ r. ⌜ readingAnswer r ≡ modimmOf op cmode imm8 quad d address ⌝ }
 {
     let mnemonic = tables::modimm::cell(op * 16 + cmode);
-    if 346 <= mnemonic {
+    if COUNT <= mnemonic {
         return Reading::Refused(Refusal::BlankCell);
     }
-    if is_zero_refused(cmode, imm8) {
+    if immediates::modified::is_zero_refused(cmode, imm8) {
         return Reading::Refused(Refusal::ZeroImmediate);
     }
     let value = immediates::modified::modimm_operand(op, cmode, imm8);

@@ -5,7 +5,7 @@ ghost use Rattle.laws.specs.Answer.{accepted};
 ghost use Rattle.laws.specs.Choice.{choose};
 ghost use Rattle.fields.specs.Registers.{vecOf};
 ghost use Rattle.decode.specs.Answers.{readingAnswer};
-ghost use Rattle.decode.specs.Operands.{two, three};
+ghost use Rattle.decode.specs.Operands.{insn, two, three};
 use crate::Reading;
 use insn::Insn;
 use insn::Mark;
@@ -30,6 +30,29 @@ fn register(quad: bool, d: u8) -> Operand
     }
 }
 
+// The reading of a record with its count and places.
+fn record(
+    mnemonic: u16,
+    mark: Mark,
+    address: u32,
+    count: u8,
+    a: Operand,
+    b: Operand,
+    c: Operand,
+) -> Reading
+    ensures { λ r. ⌜ readingAnswer r ≡ accepted (insn mnemonic mark address count a b c) ⌝ }
+{
+    Reading::Read(Insn {
+        mnemonic: mnemonic,
+        mark: mark,
+        address: address,
+        count: count,
+        first: a,
+        second: b,
+        third: c,
+    })
+}
+
 // The record of a mnemonic with one register and a value.
 pub fn register_and_value(mnemonic: u16, address: u32, quad: bool, d: u8, value: Operand) -> Reading
     ensures { λ r. ⌜ readingAnswer r ≡ two mnemonic Mark.T1 address (vecOf quad d) (accepted value) ⌝ }
@@ -37,15 +60,15 @@ pub fn register_and_value(mnemonic: u16, address: u32, quad: bool, d: u8, value:
     if odd_quad(quad, d) != 0 {
         return Reading::Refused(Refusal::OddQuad);
     }
-    Reading::Read(Insn {
-        mnemonic: mnemonic,
-        mark: Mark::T1,
-        address: address,
-        count: 2,
-        first: register(quad, d),
-        second: value,
-        third: Operand::Absent,
-    })
+    record(
+        mnemonic,
+        Mark::T1,
+        address,
+        2,
+        register(quad, d),
+        value,
+        Operand::Absent,
+    )
 }
 
 // The record of a mnemonic with two registers.
@@ -62,15 +85,17 @@ pub fn two_registers(
     if odd_quad(quad_d, d) + odd_quad(quad_m, m) != 0 {
         return Reading::Refused(Refusal::OddQuad);
     }
-    Reading::Read(Insn {
-        mnemonic: mnemonic,
-        mark: Mark::T1,
-        address: address,
-        count: 2,
-        first: register(quad_d, d),
-        second: register(quad_m, m),
-        third: Operand::Absent,
-    })
+    let first = register(quad_d, d);
+    let second = register(quad_m, m);
+    record(
+        mnemonic,
+        Mark::T1,
+        address,
+        2,
+        first,
+        second,
+        Operand::Absent,
+    )
 }
 
 // The record of a mnemonic with two registers and a value.
@@ -88,15 +113,9 @@ pub fn two_registers_and_value(
     if odd_quad(quad_d, d) + odd_quad(quad_m, m) != 0 {
         return Reading::Refused(Refusal::OddQuad);
     }
-    Reading::Read(Insn {
-        mnemonic: mnemonic,
-        mark: Mark::T1,
-        address: address,
-        count: 3,
-        first: register(quad_d, d),
-        second: register(quad_m, m),
-        third: value,
-    })
+    let first = register(quad_d, d);
+    let second = register(quad_m, m);
+    record(mnemonic, Mark::T1, address, 3, first, second, value)
 }
 
 // The record of a mnemonic with three registers.
@@ -116,13 +135,8 @@ pub fn three_registers(
     if odd_quad(quad_d, d) + odd_quad(quad_n, n) + odd_quad(quad_m, m) != 0 {
         return Reading::Refused(Refusal::OddQuad);
     }
-    Reading::Read(Insn {
-        mnemonic: mnemonic,
-        mark: mark,
-        address: address,
-        count: 3,
-        first: register(quad_d, d),
-        second: register(quad_n, n),
-        third: register(quad_m, m),
-    })
+    let first = register(quad_d, d);
+    let second = register(quad_n, n);
+    let third = register(quad_m, m);
+    record(mnemonic, mark, address, 3, first, second, third)
 }

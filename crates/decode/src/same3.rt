@@ -2,31 +2,18 @@
 ghost use mathlib.Core.Path.{_≡_};
 ghost use lib.Dec.{eqb};
 ghost use lib.Text.{eqt};
-ghost use Rattle.tables.specs.Names.{nameOf, pairwise};
+ghost use Rattle.names.specs.Names.{nameOf, pairwise};
 ghost use Rattle.decode.specs.Answers.{readingAnswer};
-ghost use Rattle.decode.specs.Operands.{both};
+ghost use Rattle.laws.specs.Choice.{both};
 ghost use Rattle.decode.specs.Same3.{same3Of, same3Reading};
 use crate::Reading;
 use crate::operands;
 use fields::dnum;
 use insn::Mark;
 use insn::Refusal;
-
-// vorr, and what it is called where its sources are equal.
-const VORR: u16 = 12;
-
-const VMOV: u16 = 345;
-
-// A pairwise name in quad form.
-fn is_pairwise_quad(quad: bool, mnemonic: u16) -> bool
-    ensures { λ r. ⌜ r ≡ both quad (pairwise (nameOf mnemonic)) ⌝ }
-{
-    if quad {
-        tables::names::is_pairwise(mnemonic)
-    } else {
-        false
-    }
-}
+use names::COUNT;
+use names::VMOV;
+use names::VORR;
 
 // vorr with equal sources.
 fn is_move(mnemonic: u16, n: u8, m: u8) -> bool
@@ -39,10 +26,10 @@ fn is_move(mnemonic: u16, n: u8, m: u8) -> bool
 fn with_registers(mnemonic: u16, quad: bool, opc: u16, d: u8, n: u8, m: u8, address: u32) -> Reading
     ensures { λ r. ⌜ readingAnswer r ≡ same3Of (nameOf mnemonic) quad opc d n m address ⌝ }
 {
-    if 346 <= mnemonic {
+    if COUNT <= mnemonic {
         return Reading::Refused(Refusal::BlankCell);
     }
-    if is_pairwise_quad(quad, mnemonic) {
+    if names::is_pairwise_quad(quad, mnemonic) {
         return Reading::Refused(Refusal::PairwiseQuad);
     }
     if is_move(mnemonic, n, m) {

@@ -3,7 +3,7 @@ ghost use mathlib.Core.Path.{_≡_};
 ghost use Prim.Native.Nat.{_<_};
 ghost use Rattle.laws.specs.Answer.{accepted};
 ghost use Rattle.decode.specs.Answers.{readingAnswer};
-ghost use Rattle.decode.specs.Shift.{amount, forbidden, columnOf, longOf, shifted, shiftOf, shiftReading};
+ghost use Rattle.decode.specs.Shift.{amount, forbidden, columnOf, shifted, shiftOf, shiftReading, isLongByZero};
 use crate::Reading;
 use crate::operands;
 use fields::dnum;
@@ -11,6 +11,7 @@ use immediates::shift::shift_amount;
 use immediates::shift::shift_code;
 use insn::Operand;
 use insn::Refusal;
+use names::COUNT;
 use tables::ShiftClass;
 
 // Whether a row of the class forbids L and imm6.
@@ -46,69 +47,38 @@ fn amount_operand(k: u8) -> Operand
     Operand::Imm(k as i64)
 }
 
-// The record of a mnemonic in a lengthening row; by 0 it has the mnemonic `moved` and no amount.
-fn lengthened(mnemonic: u16, moved: u16, k: u8, d: u8, m: u8, address: u32) -> Reading
-    ensures { λ r. ⌜ readingAnswer r ≡ longOf mnemonic moved k d m address ⌝ }
+// Whether a shift by k in a row of the class is a move.
+fn is_move(class: ShiftClass, k: u8) -> bool
+    ensures { λ r. ⌜ r ≡ isLongByZero class k ⌝ }
 {
-    if k == 0 {
-        return operands::two_registers(moved, address, true, d, false, m);
+    match class {
+        ShiftClass::Right => false,
+        ShiftClass::Left => false,
+        ShiftClass::Narrow => false,
+        ShiftClass::Long => k == 0,
+        ShiftClass::Convert => false,
     }
-    operands::two_registers_and_value(mnemonic, address, true, d, false, m, amount_operand(k))
 }
 
-// The record of a mnemonic in a row of the class.
+// The record of a mnemonic in a row of the class; a move has the mnemonic `moved` and no amount.
 fn with_amount(
     class: ShiftClass,
     mnemonic: u16,
     moved: u16,
-    quad: bool,
+    q: bool,
     k: u8,
     d: u8,
     m: u8,
     address: u32,
 ) -> Reading
-    ensures { λ r. ⌜ readingAnswer r ≡ shifted class mnemonic moved quad k d m address ⌝ }
+    ensures { λ r. ⌜ readingAnswer r ≡ shifted class mnemonic moved q k d m address ⌝ }
 {
-    let value = amount_operand(k);
-    match class {
-        ShiftClass::Narrow => operands::two_registers_and_value(
-            mnemonic,
-            address,
-            false,
-            d,
-            true,
-            m,
-            value,
-        ),
-        ShiftClass::Long => lengthened(mnemonic, moved, k, d, m, address),
-        ShiftClass::Right => operands::two_registers_and_value(
-            mnemonic,
-            address,
-            quad,
-            d,
-            quad,
-            m,
-            value,
-        ),
-        ShiftClass::Left => operands::two_registers_and_value(
-            mnemonic,
-            address,
-            quad,
-            d,
-            quad,
-            m,
-            value,
-        ),
-        ShiftClass::Convert => operands::two_registers_and_value(
-            mnemonic,
-            address,
-            quad,
-            d,
-            quad,
-            m,
-            value,
-        ),
+    let quad = tables::lengths::of_class(class, q);
+    if is_move(class, k) {
+        return operands::two_registers(moved, address, quad.d, d, quad.m, m);
     }
+    let value = amount_operand(k);
+    operands::two_registers_and_value(mnemonic, address, quad.d, d, quad.m, m, value)
 }
 
 // The reading in the row U:A:B of a class: d and m are the numbers of the registers.
@@ -131,7 +101,7 @@ fn with_class(
     }
     let size = column(class, l, imm6);
     let mnemonic = tables::shift::cell(row * 4 + size);
-    if 346 <= mnemonic {
+    if COUNT <= mnemonic {
         return Reading::Refused(Refusal::BlankCell);
     }
     with_amount(

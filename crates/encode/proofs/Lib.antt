@@ -1,14 +1,2 @@
-pub mod Amounts
-pub mod Canonical
-pub mod Immediates
 pub mod Pairs
 pub mod Promises
-pub mod Registers
-pub mod RoundDiff
-pub mod RoundModimm
-pub mod RoundSame3
-pub mod RoundShift
-pub mod Routing
-pub mod ShiftForth
-pub mod ShiftRows
-pub mod Tests

@@ -1,4 +1,4 @@
--- The pair that the code puts together is the family's.
+-- A pair's halfwords; and the pair that the code puts together is the family's.
 -- Assumes nothing.
 use mathlib.Core.Path.{_≡_, refl}
 use mathlib.Core.Bool.{Bool, true, false}
@@ -7,11 +7,17 @@ use native.Mathlib.Omega.{arith}
 use Rattle.tables.specs.declared.ShiftClass.{ShiftClass}
 use Rattle.tables.specs.declared.ShiftClass.the-variants.{Right, Left, Narrow, Long, Convert}
 use Rattle.fields.specs.Halfwords.{field, first, second}
-use Rattle.encode.specs.Forms.{pair, asBit}
+use Rattle.encode.specs.Forms.{Pair, pair, asBit}
 use Rattle.encode.specs.Same3.{same3Pair}
 use Rattle.encode.specs.Diff.{diffPair}
 use Rattle.encode.specs.Shift.{shiftPair, bitB}
 use Rattle.encode.specs.Modimm.{modimmPair}
+
+abbrev pub hw1Of : Pair → ℕ
+hw1Of (pair a b) = a
+
+abbrev pub hw2Of : Pair → ℕ
+hw2Of (pair a b) = b
 
 size-low : (k n : ℕ) → (k % 4 * 16 + n % 16) % 64 ≡ field 1 0 k * 16 + field 3 0 n
 size-low k n = omega arith

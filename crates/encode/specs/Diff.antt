@@ -11,7 +11,8 @@ use Rattle.tables.specs.Diff.{diffShapes}
 use Rattle.tables.specs.declared.DiffShape.{DiffShape}
 use Rattle.tables.specs.declared.DiffShape.the-variants.{Long, Wide, Narrow}
 use Rattle.fields.specs.Halfwords.{bit, field, first, second}
-use Rattle.encode.specs.Forms.{Pair, pair, registerIn, Three, three, allThree}
+use Rattle.encode.specs.Forms.{Pair, pair, registerIn, Three, allThree, numbers}
+use Rattle.tables.specs.Lengths.{shapeLengths}
 
 -- the cell is U:A:size; d, n and m are D:Vd, N:Vn and M:Vm
 --   hw1  1 1 1 U 1 1 1 1 1 D size Vn      hw2  Vd A N 0 M 0 Vm
@@ -21,29 +22,13 @@ diffPair cell d n m =
     (first (bit 6 cell) 1 (bit 4 d) (field 1 0 cell * 16 + field 3 0 n))
     (second (field 3 0 d) (field 5 2 cell) (bit 4 n) 0 (bit 4 m) 0 (field 3 0 m))
 
--- whether Vd, Vn and Vm are quadwords: long is Q D D, wide Q Q D, narrow D Q Q
-abbrev pub quadD : DiffShape → Bool
-quadD Long = true
-quadD Wide = true
-quadD Narrow = false
-
-abbrev pub quadN : DiffShape → Bool
-quadN Long = false
-quadN Wide = true
-quadN Narrow = true
-
-abbrev pub quadM : DiffShape → Bool
-quadM Long = false
-quadM Wide = false
-quadM Narrow = true
-
 abbrev pub diffForm : ℕ → Three → Answer Pair
-diffForm cell (three d n m) = accepted (diffPair cell d n m)
+diffForm cell (numbers d n m) = accepted (diffPair cell d n m)
 
 unfoldable pub diffShaped : DiffShape → ℕ → ℕ → Operand → Operand → Operand → Answer Pair
 diffShaped shape cell count a b c =
     choose (eqb count 3)
-    (andThen (allThree (registerIn (quadD shape) a) (registerIn (quadN shape) b) (registerIn (quadM shape) c)) (diffForm cell))
+    (andThen (allThree (registerIn (shapeLengths shape .d) a) (registerIn (shapeLengths shape .n) b) (registerIn (shapeLengths shape .m) c)) (diffForm cell))
     (refused 8)
 
 abbrev pub diffWriting : ℕ → ℕ → Operand → Operand → Operand → Answer Pair

@@ -1,19 +1,21 @@
 -- What the places of a record hold, as a mnemonic's form asks.
 -- Assumes nothing.
 use mathlib.Core.Bool.{Bool, true, false, not}
-use Prim.Native.Nat.{ℕ}
-use lib.Dec.{eqb}
-use lib.IntN.{ℤ, pos, negsuc}
+use Prim.Native.Nat.{ℕ, _+_, _*_}
 use Rattle.laws.specs.Answer.{Answer, accepted, refused}
 use Rattle.laws.specs.Choice.{choose}
 use Rattle.insn.specs.declared.Operand.{Operand}
 use Rattle.insn.specs.declared.Operand.the-variants.{D, Q, S, Imm, Float as Real, Other, Absent}
-use Rattle.laws.specs.Search.{Found, at, none}
+use Rattle.insn.specs.Record.{valueOr}
 use Rattle.fields.specs.Registers.{Bits, bits, vecBits}
 
 -- a pair: hw1, then hw2
 pub data Pair : Type 0 where
   pair : ℕ → ℕ → Pair
+
+-- a cell of a table with four columns, from its fields U, opc or A, B and size
+abbrev pub cellOf : ℕ → ℕ → ℕ → ℕ → ℕ
+cellOf u opc b size = u * 128 + opc * 8 + b * 4 + size
 
 abbrev pub asBit : Bool → ℕ
 asBit true = 1
@@ -30,19 +32,7 @@ isQuad Other = false
 isQuad Absent = false
 
 abbrev pub isNumber : Operand → Bool
-isNumber (D n) = false
-isNumber (Q n) = false
-isNumber (S n) = false
-isNumber (Imm v) = true
-isNumber (Real x) = false
-isNumber Other = false
-isNumber Absent = false
-
-abbrev pub sameNumber : ℤ → ℤ → Bool
-sameNumber (pos m) (pos n) = eqb m n
-sameNumber (pos m) (negsuc n) = false
-sameNumber (negsuc m) (pos n) = false
-sameNumber (negsuc m) (negsuc n) = eqb m n
+isNumber o = valueOr (λ v. true) (λ x. false) false o
 
 abbrev pub ofLength : Bool → Answer Bits → Answer ℕ
 ofLength quad (accepted (bits q d)) = choose (choose quad q (not q)) (accepted d) (refused 8)
@@ -52,17 +42,12 @@ ofLength quad (refused n) = refused n
 unfoldable pub registerIn : Bool → Operand → Answer ℕ
 registerIn quad reg = ofLength quad (vecBits reg)
 
--- the place that was found; a value that no pair carries is refused with 9
-abbrev pub orNine : Found → Answer ℕ
-orNine (at k) = accepted k
-orNine none = refused 9
-
 -- what three operands stand for; the first that is refused refuses them all
 pub data Three : Type 0 where
-  three : ℕ → ℕ → ℕ → Three
+  numbers : ℕ → ℕ → ℕ → Three
 
 unfoldable pub allThree : Answer ℕ → Answer ℕ → Answer ℕ → Answer Three
-allThree (accepted a) (accepted b) (accepted c) = accepted (three a b c)
+allThree (accepted a) (accepted b) (accepted c) = accepted (numbers a b c)
 allThree (accepted a) (accepted b) (refused n) = refused n
 allThree (accepted a) (refused n) z = refused n
 allThree (refused n) y z = refused n

@@ -5,5 +5,5 @@ pub mod Shift
 pub mod Modimm
 pub mod Writing
 pub mod Answers
-pub mod Spelling
 pub mod Promises
+pub mod Own

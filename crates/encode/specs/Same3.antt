@@ -5,13 +5,12 @@ use Prim.Native.Nat.{ℕ, _+_, _*_}
 use Prim.Native.String.{String}
 use lib.Dec.{eqb}
 use Rattle.laws.specs.Answer.{Answer, accepted, refused, andThen}
-use Rattle.laws.specs.Choice.{choose}
+use Rattle.laws.specs.Choice.{choose, both}
 use Rattle.insn.specs.declared.Operand.{Operand}
-use Rattle.tables.specs.Names.{pairwise}
+use Rattle.names.specs.Names.{pairwise}
 use Rattle.fields.specs.Halfwords.{bit, field, first, second}
-use Rattle.decode.specs.Operands.{both}
 use Rattle.decode.specs.Same3.{shiftsByRegister}
-use Rattle.encode.specs.Forms.{Pair, pair, asBit, isQuad, registerIn, Three, three, allThree}
+use Rattle.encode.specs.Forms.{Pair, pair, cellOf, asBit, isQuad, registerIn, Three, allThree, numbers}
 
 -- the cell is U:opc:B:size; d, n and m are D:Vd, N:Vn and M:Vm
 --   hw1  1 1 1 U 1 1 1 1 0 D size Vn      hw2  Vd opc N Q M B Vm
@@ -23,7 +22,7 @@ same3Pair cell quad d n m =
 
 -- the operands are Vd, Vn and Vm; shifts by register name Vm before Vn
 unfoldable pub same3Form : ℕ → String → Bool → Three → Answer Pair
-same3Form cell name quad (three a b c) =
+same3Form cell name quad (numbers a b c) =
     choose (both quad (pairwise name)) (refused 5)
     (accepted (choose (shiftsByRegister (field 6 3 cell)) (same3Pair cell quad a c b) (same3Pair cell quad a b c)))
 
@@ -35,7 +34,7 @@ same3Writing cell name count a b c =
 
 -- VORR stands at U=0 opc=0001 B=1 size=10, and VMOV of a register is VORR with equal sources
 abbrev pub vorrCell : ℕ
-vorrCell = 14
+vorrCell = cellOf 0 0b0001 1 0b10
 
 unfoldable pub vmovWriting : ℕ → Operand → Operand → Answer Pair
 vmovWriting count a b = choose (eqb count 2) (same3Writing vorrCell "vorr" 3 a b b) (refused 8)

@@ -1,23 +1,21 @@
 -- Writing two registers and a shift amount: A7.4.4, table A7-12.
 -- Assumes nothing.
-use mathlib.Core.Bool.{Bool, true, false, not}
-use Prim.Native.Nat.{ℕ, _+_, _*_, _/_}
+use mathlib.Core.Bool.{Bool, true, false}
+use Prim.Native.Nat.{ℕ, _/_}
 use lib.Dec.{eqb}
-use lib.IntN.{ℤ, pos}
+use lib.IntN.{pos}
 use lib.ListN.{getD}
 use Rattle.laws.specs.Answer.{Answer, accepted, refused, andThen}
 use Rattle.laws.specs.Choice.{choose}
 use Rattle.insn.specs.declared.Operand.{Operand}
-use Rattle.insn.specs.declared.Operand.the-variants.{D, Q, S, Imm, Float, Other, Absent}
-use Rattle.laws.specs.Search.{firstBelow}
+use Rattle.insn.specs.declared.Operand.the-variants.{Imm}
 use Rattle.tables.specs.Shift.{shiftClasses}
 use Rattle.tables.specs.declared.ShiftClass.{ShiftClass}
 use Rattle.tables.specs.declared.ShiftClass.the-variants.{Right, Left, Narrow, Long, Convert}
 use Rattle.fields.specs.Halfwords.{bit, field, first, second}
-use Rattle.immediates.specs.Shifts.{isEscape, amountOf}
-use Rattle.decode.specs.Operands.{both}
-use Rattle.decode.specs.Shift.{forbidden, columnOf}
-use Rattle.encode.specs.Forms.{Pair, pair, asBit, isQuad, sameNumber, registerIn, orNine, Three, three, allThree}
+use Rattle.values.specs.Amounts.{amountIn}
+use Rattle.encode.specs.Forms.{Pair, pair, cellOf, asBit, isQuad, registerIn, Three, allThree, numbers}
+use Rattle.tables.specs.Lengths.{classLengths}
 
 -- the cell is U:A:B:size, the amount L:imm6; b is the bit at B; d and m are D:Vd and M:Vm
 --   hw1  1 1 1 U 1 1 1 1 1 D imm6         hw2  Vd A L B M 1 Vm
@@ -26,39 +24,6 @@ shiftPair cell b amount d m =
     pair
     (first (bit 7 cell) 1 (bit 4 d) (field 5 0 amount))
     (second (field 3 0 d) (field 6 3 cell) (bit 6 amount) b (bit 4 m) 1 (field 3 0 m))
-
--- whether L and imm6 are read, in a row of the class, as the column and the amount v
-unfoldable pub readsAs : ShiftClass → ℕ → ℤ → ℕ → ℕ → Bool
-readsAs class column v l imm6 =
-    both (not (forbidden class l imm6))
-    (both (not (isEscape l imm6))
-    (both (eqb (columnOf class l imm6) column)
-    (sameNumber (pos (amountOf class l imm6)) v)))
-
--- the amount's operand as L:imm6
-unfoldable pub amountIn : ShiftClass → ℕ → Operand → Answer ℕ
-amountIn class column (Imm v) = orNine (firstBelow 128 (λ (t : ℕ). readsAs class column v (bit 6 t) (field 5 0 t)))
-amountIn class column (D n) = refused 8
-amountIn class column (Q n) = refused 8
-amountIn class column (S n) = refused 8
-amountIn class column (Float x) = refused 8
-amountIn class column Other = refused 8
-amountIn class column Absent = refused 8
-
--- whether Vd and Vm are quadwords: a narrowing row has D Q, a lengthening one Q D, and any other two alike
-abbrev pub quadD : ShiftClass → Bool → Bool
-quadD Right quad = quad
-quadD Left quad = quad
-quadD Narrow quad = false
-quadD Long quad = true
-quadD Convert quad = quad
-
-abbrev pub quadM : ShiftClass → Bool → Bool
-quadM Right quad = quad
-quadM Left quad = quad
-quadM Narrow quad = true
-quadM Long quad = false
-quadM Convert quad = quad
 
 -- the bit at B: Q where the registers are alike, else the row's own
 abbrev pub bitB : ShiftClass → Bool → ℕ → ℕ
@@ -69,21 +34,21 @@ bitB Long quad cell = bit 2 cell
 bitB Convert quad cell = asBit quad
 
 abbrev pub shiftForm : ShiftClass → ℕ → Bool → Three → Answer Pair
-shiftForm class cell quad (three d m amount) = accepted (shiftPair cell (bitB class quad cell) amount d m)
+shiftForm class cell quad (numbers d m amount) = accepted (shiftPair cell (bitB class quad cell) amount d m)
 
 unfoldable pub shiftClassed : ShiftClass → ℕ → ℕ → Operand → Operand → Operand → Answer Pair
 shiftClassed class cell count a b c =
     choose (eqb count 3)
-    (andThen (allThree (registerIn (quadD class (isQuad a)) a) (registerIn (quadM class (isQuad a)) b) (amountIn class (field 1 0 cell) c))
+    (andThen (allThree (registerIn (classLengths class (isQuad a) .d) a) (registerIn (classLengths class (isQuad a) .m) b) (amountIn class (field 1 0 cell) c))
     (shiftForm class cell (isQuad a)))
     (refused 8)
 
 abbrev pub shiftWriting : ℕ → ℕ → Operand → Operand → Operand → Answer Pair
 shiftWriting cell count a b c = shiftClassed (getD shiftClasses (cell / 4) Right) cell count a b c
 
--- VSHLL stands at A=1010 B=0, and VMOVL, in the cell U:size of its names, is VSHLL by 0
+-- VSHLL stands at A=1010 B=0, with its own U and size; VMOVL, in the cell U:size of its names, is VSHLL by 0
 abbrev pub vshllCell : ℕ → ℕ
-vshllCell cell = bit 2 cell * 128 + 10 * 8 + field 1 0 cell
+vshllCell cell = cellOf (bit 2 cell) 0b1010 0 (field 1 0 cell)
 
 unfoldable pub vmovlWriting : ℕ → ℕ → Operand → Operand → Answer Pair
 vmovlWriting cell count a b = choose (eqb count 2) (shiftWriting (vshllCell cell) 3 a b (Imm (pos 0))) (refused 8)

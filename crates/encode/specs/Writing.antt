@@ -6,10 +6,10 @@ use Rattle.laws.specs.Answer.{Answer, refused}
 use Rattle.insn.specs.declared.Insn.{Insn}
 use Rattle.insn.specs.declared.Operand.{Operand}
 use Rattle.insn.specs.Record.{placeAt}
-use Rattle.tables.specs.Home.{homeOf}
-use Rattle.tables.specs.Names.{nameOf}
-use Rattle.tables.specs.declared.home.Home.{Home}
-use Rattle.tables.specs.declared.home.Home.the-variants.{Same3, Shift, Vmovl, Modimm, Diff, Vmov, Nowhere}
+use Rattle.homes.specs.Home.{homeOf}
+use Rattle.names.specs.Names.{nameOf}
+use Rattle.homes.specs.declared.Home.{Home}
+use Rattle.homes.specs.declared.Home.the-variants.{Same3, Shift, Vmovl, Modimm, Diff, Vmov, Nowhere}
 use Rattle.encode.specs.Forms.{Pair, isNumber}
 use Rattle.encode.specs.Same3.{same3Writing, vmovWriting}
 use Rattle.encode.specs.Diff.{diffWriting}

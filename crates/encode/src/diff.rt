@@ -1,15 +1,13 @@
 // Writing three registers of different lengths.
 ghost use mathlib.Core.Path.{_≡_};
 ghost use Rattle.laws.specs.Answer.{accepted};
-ghost use Rattle.encode.specs.Answers.{writingAnswer, fieldsAnswer};
-ghost use Rattle.encode.specs.Diff.{quadD, quadN, quadM, diffPair, diffWriting};
-ghost use Rattle.encode.specs.Forms.{registerIn, allThree};
+ghost use Rattle.encode.specs.Answers.{writingAnswer};
+ghost use Rattle.encode.specs.Diff.{diffPair, diffWriting};
 use crate::Writing;
 use crate::forms;
 use crate::forms::Fields;
 use insn::Operand;
 use insn::Refusal;
-use tables::DiffShape;
 
 // The pair of the cell U:A:size and the registers D:Vd, N:Vn and M:Vm.
 fn diff_pair(cell: u8, d: u16, n: u16, m: u16) -> Writing
@@ -22,17 +20,6 @@ fn diff_pair(cell: u8, d: u16, n: u16, m: u16) -> Writing
     )
 }
 
-// The registers of a row's shape: long is Q D D, wide Q Q D, narrow D Q Q.
-fn shaped(shape: DiffShape, a: Operand, b: Operand, c: Operand) -> Fields
-    ensures { λ r. ⌜ fieldsAnswer r ≡ allThree (registerIn (quadD shape) a) (registerIn (quadN shape) b) (registerIn (quadM shape) c) ⌝ }
-{
-    match shape {
-        DiffShape::Long => forms::registers(true, false, false, a, b, c),
-        DiffShape::Wide => forms::registers(true, true, false, a, b, c),
-        DiffShape::Narrow => forms::registers(false, true, true, a, b, c),
-    }
-}
-
 // Writes a mnemonic of table A7-10 that stands in a cell.
 pub fn encode_diff(cell: u8, count: u8, a: Operand, b: Operand, c: Operand) -> Writing
     ensures { λ r. ⌜ writingAnswer r ≡ diffWriting cell count a b c ⌝ }
@@ -40,8 +27,9 @@ pub fn encode_diff(cell: u8, count: u8, a: Operand, b: Operand, c: Operand) -> W
     if count != 3 {
         return Writing::Refused(Refusal::WrongForm);
     }
-    let registers = shaped(tables::diff::shape(cell / 4), a, b, c);
-    match registers {
+    let quad = tables::lengths::of_shape(tables::diff::shape(cell / 4));
+    let found = forms::registers(quad.d, quad.n, quad.m, a, b, c);
+    match found {
         Fields::Are(d, n, m) => diff_pair(cell, d, n, m),
         Fields::Refused(f) => Writing::Refused(f),
     }

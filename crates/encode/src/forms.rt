@@ -1,16 +1,12 @@
 // What the places of a record hold, as a mnemonic's form asks.
 ghost use mathlib.Core.Path.{_≡_};
-ghost use Rattle.encode.specs.Answers.{fieldAnswer, fieldsAnswer};
 ghost use Rattle.encode.specs.Forms.{asBit, isQuad, isNumber, registerIn, allThree};
+ghost use Rattle.values.specs.Answers.{fieldAnswer};
+ghost use Rattle.encode.specs.Own.{fieldsAnswer};
 use fields::VectorBits;
 use insn::Operand;
 use insn::Refusal;
-
-// What an operand stands for in a pair, or the refusal.
-pub enum Field {
-    Is(u16),
-    Refused(Refusal),
-}
+use values::Field;
 
 // What three operands stand for.
 pub enum Fields {

@@ -1,17 +1,14 @@
 // Writing a record as a pair of halfwords.
 ghost use mathlib.Core.Path.{_≡_};
-ghost use Rattle.tables.specs.Home.{homeOf};
-ghost use Rattle.tables.specs.Names.{nameOf};
+ghost use Rattle.homes.specs.Home.{homeOf};
+ghost use Rattle.names.specs.Names.{nameOf};
 ghost use Rattle.encode.specs.Answers.{writingAnswer};
 ghost use Rattle.encode.specs.Forms.{isNumber};
-ghost use Rattle.decode.specs.Reading.{reading};
-ghost use Rattle.encode.specs.Spelling.{samePair};
 ghost use Rattle.encode.specs.Writing.{inHome, writing};
-use decode::Reading;
+use homes::Home;
 use insn::Insn;
 use insn::Operand;
 use insn::Refusal;
-use tables::home::Home;
 
 mod diff;
 mod forms;
@@ -46,7 +43,7 @@ pub fn write(i: Insn) -> Writing
     ensures { λ r. ⌜ writingAnswer r ≡ writing i ⌝ }
 {
     let c = insn::place(i, 2);
-    let home = tables::home::home_of(i.mnemonic, forms::is_number(c));
+    let home = homes::home_of(i.mnemonic, forms::is_number(c));
     write_in(
         home,
         i.mnemonic,
@@ -55,15 +52,4 @@ pub fn write(i: Insn) -> Writing
         insn::place(i, 1),
         c,
     )
-}
-
-// Reads a pair and writes it again: a pair that is read comes back, whatever the address.
-pub fn read_and_write(hw1: u16, hw2: u16, address: u32) -> Writing
-    ensures { λ r. ⌜ writingAnswer r ≡ samePair (reading hw1 hw2 address) hw1 hw2 ⌝ }
-{
-    let answer = decode::read(hw1, hw2, address);
-    match answer {
-        Reading::Refused(f) => Writing::Refused(f),
-        Reading::Read(i) => write(i),
-    }
 }

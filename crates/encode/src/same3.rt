@@ -1,20 +1,19 @@
 // Writing three registers of the same length.
 ghost use mathlib.Core.Path.{_≡_};
 ghost use Rattle.laws.specs.Answer.{accepted};
-ghost use Rattle.tables.specs.Names.{nameOf, pairwise};
-ghost use Rattle.decode.specs.Operands.{both};
+ghost use Rattle.names.specs.Names.{nameOf, pairwise};
+ghost use Rattle.laws.specs.Choice.{both};
 ghost use Rattle.encode.specs.Answers.{writingAnswer};
-ghost use Rattle.encode.specs.Forms.{three};
+ghost use Rattle.encode.specs.Forms.{numbers};
 ghost use Rattle.encode.specs.Same3.{same3Pair, same3Form, same3Writing, vmovWriting};
 use crate::Writing;
 use crate::forms;
 use crate::forms::Fields;
 use insn::Operand;
 use insn::Refusal;
+use names::VORR;
 
 const VORR_CELL: u8 = 14;
-
-const VORR: u16 = 12;
 
 // The pair of the cell U:opc:B:size and the registers D:Vd, N:Vn and M:Vm.
 fn same3_pair(cell: u8, quad: bool, d: u16, n: u16, m: u16) -> Writing
@@ -27,21 +26,11 @@ fn same3_pair(cell: u8, quad: bool, d: u16, n: u16, m: u16) -> Writing
     )
 }
 
-// Whether a pairwise mnemonic is in quad form.
-fn is_pairwise_quad(m: u16, quad: bool) -> bool
-    ensures { λ r. ⌜ r ≡ both quad (pairwise (nameOf m)) ⌝ }
-{
-    if quad {
-        return tables::names::is_pairwise(m);
-    }
-    false
-}
-
 // The pair of a mnemonic's cell and its operands' numbers.
 fn same3_form(cell: u8, m: u16, quad: bool, a: u16, b: u16, c: u16) -> Writing
-    ensures { λ r. ⌜ writingAnswer r ≡ same3Form cell (nameOf m) quad (three a b c) ⌝ }
+    ensures { λ r. ⌜ writingAnswer r ≡ same3Form cell (nameOf m) quad (numbers a b c) ⌝ }
 {
-    if is_pairwise_quad(m, quad) {
+    if names::is_pairwise_quad(quad, m) {
         return Writing::Refused(Refusal::PairwiseQuad);
     }
     if cell / 16 % 8 == 2 {

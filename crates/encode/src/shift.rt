@@ -1,133 +1,21 @@
 // Writing two registers and a shift amount.
 ghost use mathlib.Core.Path.{_≡_};
-ghost use Prim.Native.Nat.{_+_, _-_, _*_, _<_, _≤_};
-ghost use lib.Dec.{eqb, ltb};
-ghost use lib.IntN.{pos};
-ghost use Rattle.laws.specs.Answer.{accepted, refused};
-ghost use Rattle.laws.specs.Choice.{choose};
-ghost use Rattle.encode.specs.Answers.{writingAnswer, fieldAnswer, fieldsAnswer};
+ghost use Prim.Native.Nat.{_<_};
+ghost use Rattle.laws.specs.Answer.{accepted};
+ghost use Rattle.values.specs.Amounts.{amountIn};
+ghost use Rattle.encode.specs.Answers.{writingAnswer};
 ghost use Rattle.encode.specs.Forms.{registerIn, allThree};
-ghost use Rattle.encode.specs.Shift.{shiftPair, amountIn, quadD, quadM, bitB, shiftClassed, shiftWriting, vmovlWriting};
+ghost use Rattle.encode.specs.Shift.{shiftPair, bitB, shiftClassed, shiftWriting, vmovlWriting};
+ghost use Rattle.encode.specs.Own.{fieldsAnswer};
 use crate::Writing;
 use crate::forms;
-use crate::forms::Field;
 use crate::forms::Fields;
-use immediates::signed;
 use insn::Operand;
 use insn::Refusal;
 use tables::ShiftClass;
+ghost use Rattle.tables.specs.Lengths.{classLengths};
 
-// The largest amount that a pair carries.
-const LARGEST: u64 = 64;
-
-// L:imm6 of the amount k where the amounts 1 to n count down from 2n.
-fn counted_down(n: u8, k: u8) -> Field
-    requires { ⌜ n ≤ 64 ⌝ }
-    ensures { λ r. ⌜ fieldAnswer r ≡ choose (eqb k 0) (refused 9) (choose (ltb n k) (refused 9) (accepted (2 * n - k))) ⌝ }
-{
-    if k == 0 {
-        return Field::Refused(Refusal::NoSuchValue);
-    }
-    if n < k {
-        return Field::Refused(Refusal::NoSuchValue);
-    }
-    Field::Is((2 * n - k) as u16)
-}
-
-// L:imm6 of the amount k where the amounts below n count up from n.
-fn counted_up(n: u8, k: u8) -> Field
-    requires { ⌜ n ≤ 64 ⌝ }
-    ensures { λ r. ⌜ fieldAnswer r ≡ choose (ltb k n) (accepted (n + k)) (refused 9) ⌝ }
-{
-    if k < n {
-        return Field::Is((n + k) as u16);
-    }
-    Field::Refused(Refusal::NoSuchValue)
-}
-
-// L:imm6 of the amount k in a column of a row of the class; a blank column has no amounts.
-fn amount_place(class: ShiftClass, column: u8, k: u8) -> Field
-    requires { ⌜ (column < 4) × (k ≤ 64) ⌝ }
-    ensures { λ r. ⌜ fieldAnswer r ≡ amountIn class column (Operand.Imm (pos k)) ⌝ }
-{
-    let bits = 8 << column;
-    match class {
-        ShiftClass::Right => counted_down(bits, k),
-        ShiftClass::Left => counted_up(bits, k),
-        ShiftClass::Narrow => {
-            if column == 3 {
-                return Field::Refused(Refusal::NoSuchValue);
-            }
-            counted_down(bits, k)
-        }
-        ShiftClass::Long => {
-            if column == 3 {
-                return Field::Refused(Refusal::NoSuchValue);
-            }
-            counted_up(bits, k)
-        }
-        ShiftClass::Convert => {
-            if column != 0 {
-                return Field::Refused(Refusal::NoSuchValue);
-            }
-            counted_down(32, k)
-        }
-    }
-}
-
-// L:imm6 of a number as an amount.
-fn number_place(class: ShiftClass, column: u8, v: i64) -> Field
-    requires { ⌜ column < 4 ⌝ }
-    ensures { λ r. ⌜ fieldAnswer r ≡ amountIn class column (Operand.Imm v) ⌝ }
-{
-    let pattern = signed::pattern_of(v);
-    if LARGEST < pattern {
-        return Field::Refused(Refusal::NoSuchValue);
-    }
-    amount_place(class, column, pattern as u8)
-}
-
-// L:imm6 of the operand that is the amount.
-fn amount(class: ShiftClass, column: u8, o: Operand) -> Field
-    requires { ⌜ column < 4 ⌝ }
-    ensures { λ r. ⌜ fieldAnswer r ≡ amountIn class column o ⌝ }
-{
-    match o {
-        Operand::Imm(v) => number_place(class, column, v),
-        Operand::D(_) => Field::Refused(Refusal::WrongForm),
-        Operand::Q(_) => Field::Refused(Refusal::WrongForm),
-        Operand::S(_) => Field::Refused(Refusal::WrongForm),
-        Operand::Float(_) => Field::Refused(Refusal::WrongForm),
-        Operand::Other => Field::Refused(Refusal::WrongForm),
-        Operand::Absent => Field::Refused(Refusal::WrongForm),
-    }
-}
-
-// Whether Vd and Vm are quadwords, and the bit at B, by the row's class.
-fn quad_d(class: ShiftClass, quad: bool) -> bool
-    ensures { λ r. ⌜ r ≡ quadD class quad ⌝ }
-{
-    match class {
-        ShiftClass::Right => quad,
-        ShiftClass::Left => quad,
-        ShiftClass::Narrow => false,
-        ShiftClass::Long => true,
-        ShiftClass::Convert => quad,
-    }
-}
-
-fn quad_m(class: ShiftClass, quad: bool) -> bool
-    ensures { λ r. ⌜ r ≡ quadM class quad ⌝ }
-{
-    match class {
-        ShiftClass::Right => quad,
-        ShiftClass::Left => quad,
-        ShiftClass::Narrow => true,
-        ShiftClass::Long => false,
-        ShiftClass::Convert => quad,
-    }
-}
-
+// The bit at B, by the row's class.
 fn bit_b(class: ShiftClass, quad: bool, cell: u8) -> u16
     ensures { λ r. ⌜ r ≡ bitB class quad cell ⌝ }
 {
@@ -154,12 +42,13 @@ fn shift_pair(class: ShiftClass, cell: u8, quad: bool, t: u16, d: u16, m: u16) -
 // The registers and the amount of a row of the class.
 fn operands(class: ShiftClass, quad: bool, column: u8, a: Operand, b: Operand, c: Operand) -> Fields
     requires { ⌜ column < 4 ⌝ }
-    ensures { λ r. ⌜ fieldsAnswer r ≡ allThree (registerIn (quadD class quad) a) (registerIn (quadM class quad) b) (amountIn class column c) ⌝ }
+    ensures { λ r. ⌜ fieldsAnswer r ≡ allThree (registerIn (classLengths class quad .d) a) (registerIn (classLengths class quad .m) b) (amountIn class column c) ⌝ }
 {
+    let lengths = tables::lengths::of_class(class, quad);
     forms::all_three(
-        forms::register(quad_d(class, quad), a),
-        forms::register(quad_m(class, quad), b),
-        amount(class, column, c),
+        forms::register(lengths.d, a),
+        forms::register(lengths.m, b),
+        values::amount::amount(class, column, c),
     )
 }
 

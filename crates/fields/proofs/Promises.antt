@@ -12,11 +12,10 @@ use Rattle.laws.proofs.Digits.{digit}
 use Rattle.laws.proofs.Never.{never}
 use Rattle.insn.specs.declared.Operand.the-variants.{D, Q, S, Imm, Float, Other, Absent}
 use Rattle.insn.proofs.Promises.{numberedApart}
-use Rattle.fields.specs.declared.Vector.the-variants.{Is, Refused}
-use Rattle.fields.specs.declared.VectorBits.the-variants.{Are, Refused as noBits}
+use Rattle.fields.specs.declared.VectorBits.the-variants.{Are, Refused}
 use Rattle.fields.specs.Registers.{bits, vecOf, vecBits}
 use Rattle.fields.specs.Halfwords.{first, second}
-use Rattle.fields.specs.Promises.{BitsOfVec, VecOfBits, FirstUnpacked, SecondUnpacked, FirstPacked, SecondPacked, VectorsApart, BitsApart}
+use Rattle.fields.specs.Promises.{BitsOfVec, VecOfBits, FirstUnpacked, SecondUnpacked, FirstPacked, SecondPacked, BitsApart}
 
 pub bitsOfVec : BitsOfVec
 unfolding vecOf vecBits
@@ -78,14 +77,8 @@ secondPacked h l =
     let low4 : h / 16 * 16 + h / 1 % 16 ≡ h = omega arith in
     rw top4 (second-sum h (h / 1 % 16) (h / 16) (h / 16 % 2) (h / 32) (h / 32 % 2) (h / 64) (h / 64 % 2) (h / 128) (h / 128 % 2) (h / 256) (h / 256 % 16) (h / 4096) low4 (digit h 16 2) (digit h 32 2) (digit h 64 2) (digit h 128 2) (digit h 256 16))
 
-pub vectorsApart : VectorsApart
-vectorsApart (Is a) (Is b) e = ap Is (let k : a ≡ b = cc in k)
-vectorsApart (Is a) (Refused g) e = never (cc)
-vectorsApart (Refused f) (Is b) e = never (cc)
-vectorsApart (Refused f) (Refused g) e = ap Refused (numberedApart f g (cc))
-
 pub bitsApart : BitsApart
 bitsApart (Are p a) (Are q b) e = let k : p ≡ q = cc in let m : a ≡ b = cc in λ i. Are (k i) (m i)
-bitsApart (Are p a) (noBits g) e = never (cc)
-bitsApart (noBits f) (Are q b) e = never (cc)
-bitsApart (noBits f) (noBits g) e = ap noBits (numberedApart f g (cc))
+bitsApart (Are p a) (Refused g) e = never (cc)
+bitsApart (Refused f) (Are q b) e = never (cc)
+bitsApart (Refused f) (Refused g) e = ap Refused (numberedApart f g (cc))

@@ -5,9 +5,8 @@ use mathlib.Core.Path.{_≡_}
 use Prim.Native.Nat.{ℕ, _<_}
 use Rattle.laws.specs.Answer.{accepted}
 use Rattle.insn.specs.declared.Operand.{Operand}
-use Rattle.fields.specs.declared.Vector.{Vector}
 use Rattle.fields.specs.declared.VectorBits.{VectorBits}
-use Rattle.fields.specs.Answers.{vectorAnswer, bitsAnswer}
+use Rattle.fields.specs.Answers.{bitsAnswer}
 use Rattle.fields.specs.Halfwords.{bit, field, first, second}
 use Rattle.fields.specs.Registers.{bits, vecOf, vecBits}
 
@@ -56,8 +55,5 @@ SecondPacked =
     → second (field 15 12 h) (field 11 8 h) (bit 7 h) (bit 6 h) (bit 5 h) (bit 4 h) (field 3 0 h) ≡ h
 
 -- an answer says which case it is
-abbrev pub VectorsApart : Type 0
-VectorsApart = (v w : Vector) → vectorAnswer v ≡ vectorAnswer w → v ≡ w
-
 abbrev pub BitsApart : Type 0
 BitsApart = (v w : VectorBits) → bitsAnswer v ≡ bitsAnswer w → v ≡ w

@@ -1,17 +1,11 @@
 // The fields of a pair: register numbers, and the two halfwords put together from their fields.
 ghost use mathlib.Core.Path.{_≡_};
 ghost use Prim.Native.Nat.{_%_};
-ghost use Rattle.fields.specs.Answers.{vectorAnswer, bitsAnswer};
+ghost use Rattle.fields.specs.Answers.{bitsAnswer};
 ghost use Rattle.fields.specs.Halfwords.{first, second};
-ghost use Rattle.fields.specs.Registers.{dnumOf, vecOf, vecBits};
+ghost use Rattle.fields.specs.Registers.{dnumOf, vecBits};
 use insn::Operand;
 use insn::Refusal;
-
-// What `vec` answers: a register, or the refusal.
-pub enum Vector {
-    Is(Operand),
-    Refused(Refusal),
-}
 
 // What `vec_bits` answers: whether the register is a quadword, and the number of its (lower) doubleword; or the refusal.
 pub enum VectorBits {
@@ -26,20 +20,7 @@ pub fn dnum(hi: u16, lo: u16) -> u8
     (hi % 2 * 16 + lo % 16) as u8
 }
 
-// The register that the number d names, as a quadword or as a doubleword.
-pub fn vec(quad: bool, d: u8) -> Vector
-    ensures { λ r. ⌜ vectorAnswer r ≡ vecOf quad d ⌝ }
-{
-    if quad {
-        if d % 2 == 0 {
-            return Vector::Is(Operand::Q(d / 2));
-        }
-        return Vector::Refused(Refusal::OddQuad);
-    }
-    Vector::Is(Operand::D(d))
-}
-
-// The inverse of `vec`, for D0 to D31 and Q0 to Q15.
+// Whether a register is a quadword, and its number, for D0 to D31 and Q0 to Q15.
 pub fn vec_bits(reg: Operand) -> VectorBits
     ensures { λ r. ⌜ bitsAnswer r ≡ vecBits reg ⌝ }
 {

@@ -4,4 +4,3 @@ pub mod Found
 pub mod Promises
 pub mod Same
 pub mod Shifts
-pub mod Signs

@@ -1,5 +1,4 @@
 pub mod Shifts
-pub mod Signed
 pub mod Modified
 pub mod Floats
 pub mod Found

@@ -4,9 +4,11 @@
 use mathlib.Core.Bool.{Bool, true, false}
 use mathlib.Core.List.{List, [], _∷_, _++_}
 use Prim.Native.Nat.{ℕ, zero, suc, _+_, _-_, _*_, _/_, _%_, _^_}
+use lib.Dec.{eqb}
 use lib.IntN.{pos}
 use lib.ListN.{getD}
 use Rattle.laws.specs.Answer.{Answer, accepted, refused}
+use Rattle.laws.specs.Choice.{both}
 use Rattle.laws.specs.Signed.{twosComplement}
 use Rattle.insn.specs.declared.Operand.{Operand}
 use Rattle.insn.specs.declared.Operand.the-variants.{Imm, Float, Absent}
@@ -96,3 +98,6 @@ modimmOperand op cmode b = operandIn (constantAt op cmode) b
 -- a zero imm8 is refused when cmode >> 1 is 1, 2, 3, 5 or 6
 unfoldable pub needsNonzero : ℕ → Bool
 needsNonzero cmode = getD (false ∷ true ∷ true ∷ true ∷ false ∷ true ∷ true ∷ []) (cmode / 2) false
+
+abbrev pub zeroRefused : ℕ → ℕ → Bool
+zeroRefused cmode imm8 = both (eqb imm8 0) (needsNonzero cmode)

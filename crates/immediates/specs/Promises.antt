@@ -2,17 +2,17 @@
 -- Assumes nothing.
 use mathlib.Core.Bool.{true, false}
 use mathlib.Core.Path.{_≡_}
-use Prim.Native.Nat.{ℕ, _<_, _≤_, _^_}
+use Prim.Native.Nat.{ℕ, _<_, _≤_}
 use lib.Dec.{leb}
-use lib.IntN.{ℤ}
-use lib.Signed.{mag}
 use lib.Ieee.{Float, binary32, binary64, ofBits, eq, fits}
 use lib.Ieee.Exact.{HasValue}
 use Rattle.laws.specs.Search.{at}
-use Rattle.laws.specs.Signed.{twosComplement}
 use Rattle.tables.specs.declared.ShiftClass.the-variants.{Right, Left, Convert}
-use Rattle.immediates.specs.Shifts.{isEscape, codeOf, bitsOf, amountOf}
-use Rattle.immediates.specs.Signed.{patternOf}
+use Rattle.insn.specs.Widths.{bitsAt}
+use Rattle.immediates.specs.declared.float.FloatFound.{FloatFound}
+use Rattle.immediates.specs.declared.modified.Expansion.{Expansion}
+use Rattle.immediates.specs.Answers.{expansionAnswer, floatFoundAnswer}
+use Rattle.immediates.specs.Shifts.{isEscape, sizeCode, amountOf}
 use Rattle.immediates.specs.Floats.{kOf, floatOf, floatBits}
 use Rattle.immediates.specs.Found.{findFloat}
 
@@ -33,22 +33,22 @@ FloatOnce =
 abbrev pub FloatBack : Type 0
 FloatBack = (b : ℕ) → b < 256 → findFloat (floatOf b) ≡ at b
 
--- a pattern, read as a signed number, has that pattern; a number of 64 bits is that of its pattern
-abbrev pub PatternBack : Type 0
-PatternBack = (p : ℕ) → p < 2 ^ 64 → patternOf (twosComplement 64 p) ≡ p
-
-abbrev pub SignedBack : Type 0
-SignedBack = (v : ℤ) → mag v < 2 ^ 63 → twosComplement 64 (patternOf v) ≡ v
-
 -- where L and imm6 encode an element size, a right (or narrowing) amount is 1 to its bits, and a left (or lengthening) one below them
 abbrev pub RightAmounts : Type 0
 RightAmounts =
     (l imm6 : ℕ) → l < 2 → imm6 < 64 → isEscape l imm6 ≡ false
-    → (1 ≤ amountOf Right l imm6) × (amountOf Right l imm6 ≤ bitsOf (codeOf l imm6))
+    → (1 ≤ amountOf Right l imm6) × (amountOf Right l imm6 ≤ bitsAt (sizeCode l imm6))
 
 abbrev pub LeftAmounts : Type 0
-LeftAmounts = (l imm6 : ℕ) → l < 2 → imm6 < 64 → isEscape l imm6 ≡ false → amountOf Left l imm6 < bitsOf (codeOf l imm6)
+LeftAmounts = (l imm6 : ℕ) → l < 2 → imm6 < 64 → isEscape l imm6 ≡ false → amountOf Left l imm6 < bitsAt (sizeCode l imm6)
 
 -- a conversion's amount is 1 to 32, where imm6 is not below 32
 abbrev pub ConvertAmounts : Type 0
 ConvertAmounts = (l imm6 : ℕ) → 32 ≤ imm6 → imm6 < 64 → (1 ≤ amountOf Convert l imm6) × (amountOf Convert l imm6 ≤ 32)
+
+-- an answer says which case it is
+abbrev pub ExpansionsApart : Type 0
+ExpansionsApart = (x y : Expansion) → expansionAnswer x ≡ expansionAnswer y → x ≡ y
+
+abbrev pub FloatsFoundApart : Type 0
+FloatsFoundApart = (x y : FloatFound) → floatFoundAnswer x ≡ floatFoundAnswer y → x ≡ y

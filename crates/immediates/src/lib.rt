@@ -2,4 +2,3 @@
 pub mod float;
 pub mod modified;
 pub mod shift;
-pub mod signed;

@@ -3,10 +3,10 @@ ghost use mathlib.Core.Path.{_≡_};
 ghost use Prim.Native.Nat.{_<_, _^_};
 ghost use Rattle.immediates.specs.Answers.{expansionAnswer};
 ghost use Rattle.immediates.specs.Floats.{kOf, floatOf, floatBits};
-ghost use Rattle.immediates.specs.Modified.{bytesOf, constantAt, element, expandImm, modimmOperand, needsNonzero};
-use crate::signed;
+ghost use Rattle.immediates.specs.Modified.{bytesOf, constantAt, element, expandImm, modimmOperand, needsNonzero, zeroRefused};
 use insn::Operand;
 use insn::Refusal;
+use insn::signed;
 
 // What `expand_imm` answers: the 64-bit pattern, or the refusal.
 pub enum Expansion {
@@ -33,6 +33,17 @@ pub fn modimm_needs_nonzero(cmode: u8) -> bool
         return false;
     }
     shift < 7
+}
+
+// A zero imm8 in a row that refuses it.
+pub fn is_zero_refused(cmode: u8, imm8: u8) -> bool
+    ensures { λ r. ⌜ r ≡ zeroRefused cmode imm8 ⌝ }
+{
+    if imm8 == 0 {
+        modimm_needs_nonzero(cmode)
+    } else {
+        false
+    }
 }
 
 // k of the float k/128.

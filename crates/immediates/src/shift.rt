@@ -1,7 +1,8 @@
 // Shift amounts: what L and imm6 stand for.
 ghost use mathlib.Core.Path.{_≡_};
 ghost use Prim.Native.Nat.{_-_, _≤_};
-ghost use Rattle.immediates.specs.Shifts.{isEscape, codeOf, bitsOf, rightEnd, leftStart, amountOf};
+ghost use Rattle.immediates.specs.Shifts.{isEscape, rightEnd, leftStart, amountOf, sizeCode};
+ghost use Rattle.insn.specs.Widths.{bitsAt};
 use tables::ShiftClass;
 
 // Whether L and imm6 encode no element size: the pair is then a modified-immediate one.
@@ -13,7 +14,7 @@ pub fn is_modimm_escape(l: u8, imm6: u8) -> bool
 
 // The element size that L and imm6 encode: 0 to 3 for 8 to 64 bits.
 pub fn shift_code(l: u8, imm6: u8) -> u8
-    ensures { λ r. ⌜ r ≡ codeOf l imm6 ⌝ }
+    ensures { λ r. ⌜ r ≡ sizeCode l imm6 ⌝ }
 {
     if l != 0 {
         return 3;
@@ -29,7 +30,7 @@ pub fn shift_code(l: u8, imm6: u8) -> u8
 
 // The bits of an element whose size L and imm6 encode.
 fn element_bits(l: u8, imm6: u8) -> u8
-    ensures { λ r. ⌜ (r ≡ bitsOf (codeOf l imm6)) × (r ≤ 64) ⌝ }
+    ensures { λ r. ⌜ (r ≡ bitsAt (sizeCode l imm6)) × (r ≤ 64) ⌝ }
 {
     8 << shift_code(l, imm6)
 }

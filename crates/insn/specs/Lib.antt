@@ -1,3 +1,4 @@
 pub mod Record
+pub mod Widths
 pub mod Refusals
 pub mod Promises

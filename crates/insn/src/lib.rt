@@ -1,7 +1,10 @@
-// The words that every other crate speaks: operands, records, and the causes of refusal.
+// The words that every other crate speaks: operands, records, widths, signed numbers, and the causes of refusal.
 ghost use mathlib.Core.Path.{_≡_};
 ghost use Rattle.insn.specs.Record.{placeAt};
 ghost use Rattle.insn.specs.Refusals.{number};
+
+pub mod signed;
+pub mod widths;
 
 // One place of a record: none, a register by its number, a whole number, a float, or an operand of another kind.
 pub enum Operand {
@@ -29,6 +32,20 @@ pub struct Insn {
     pub first: Operand,
     pub second: Operand,
     pub third: Operand,
+}
+
+// How many bits an element has.
+pub enum Width {
+    B8,
+    B16,
+    B32,
+    B64,
+}
+
+// How an element is read: as a number from 0, or in two's complement.
+pub enum Sign {
+    Unsigned,
+    Signed,
 }
 
 // Why an input is refused; `refusal_number` has the number of each.

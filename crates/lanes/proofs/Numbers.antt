@@ -1,21 +1,10 @@
 -- Laws on numbers of w bits, each over the width.
 -- Assumes nothing.
 use mathlib.Core.Path.{_≡_, refl, sym, _∙_, ap, subst}
-use mathlib.Core.Bool.{Bool, true, false}
 use Prim.Native.Nat.{ℕ, _+_, _-_, _*_, _/_, _%_, _^_, _≤_, _<_}
 use native.Mathlib.Nat.{mul-add, add-mul, mul-assoc, mul-comm, add-comm, mul-right-comm, mul-mul-mul-comm, mod-lt, mod-add-mod, add-mod-mod, add-mod-right, add-mul-mod-self-right, mul-mod-left, div-eq-of-lt, lt-of-lt-of-le, lt-of-le-of-lt, le-of-lt, mul-le-mul-left, mul-lt-mul-of-pos-right, div-add-mod'}
 use native.Mathlib.Omega.{arith}
-use lib.Dec.{ltb}
 use lib.Pow.{shl-exact, shl-lt, pow-pos, pow-add, pow-mono, mod-mod-pow, ones-split, high, ones-lt}
-use borrow.Author.Tests.{ltb-true, ltb-false}
-
--- either side of a bound
-pub sides : {P : Type 0} (h x : ℕ) → (x < h → P) → (h ≤ x → P) → P
-sides {P} h x f g = by (ltb x h) refl
-  where
-    by : (t : Bool) → ltb x h ≡ t → P
-    by true e = f (ltb-true x h e)
-    by false e = g (ltb-false x h e)
 
 -- a word of ones, shifted right until w are left
 pub ones-shr : (w : ℕ) → w ≤ 64 → (2 ^ 64 - 1) / 2 ^ (64 - w) ≡ 2 ^ w - 1
@@ -33,13 +22,6 @@ cut64 n w h =
 
 pub add-cut64 : (d n w : ℕ) → w ≤ 64 → (d + n % 2 ^ 64) % 2 ^ w ≡ (d + n) % 2 ^ w
 add-cut64 d n w h = sym (add-mod-mod d (n % 2 ^ 64) (2 ^ w)) ∙ ap (λ (v : ℕ). (d + v) % 2 ^ w) (cut64 n w h) ∙ add-mod-mod d n (2 ^ w)
-
--- 2^w is twice its half
-pub twice-half : (w : ℕ) → 0 < w → 2 ^ w ≡ 2 ^ (w - 1) + 2 ^ (w - 1)
-twice-half w p =
-    let e : w ≡ (w - 1) + 1 = omega arith in
-    let d : 2 ^ (w - 1) * 2 ^ 1 ≡ 2 ^ (w - 1) + 2 ^ (w - 1) = omega arith in
-    ap (λ (n : ℕ). 2 ^ n) e ∙ pow-add 2 (w - 1) 1 ∙ d
 
 -- a shift by all the bits or more
 pub shr-out : (x j k : ℕ) → x < 2 ^ j → j ≤ k → x / 2 ^ k ≡ 0

@@ -4,10 +4,12 @@ use mathlib.Core.Path.{refl}
 use Prim.Native.Nat.{_/_}
 use native.Mathlib.Nat.{lt-of-lt-of-le, mul-div-le}
 use lib.Pow.{pow-mono}
-use Rattle.laws.specs.Signed.{twosComplement}
-use Rattle.lanes.specs.declared.Width.the-variants.{B8, B16, B32, B64}
-use Rattle.lanes.specs.Lane.{readAs, modulo, greater, lesser, onesIf, exact, laneOf, lanewise, bitsOf, lanesOf}
-use Rattle.lanes.specs.Promises.{EachLane, Split, Row, LaneBelow, LanesBelow, ReadBack, Worked}
+use Rattle.laws.specs.Signed.{twosComplement, modulo}
+use Rattle.laws.proofs.Signed.{modulo-lt}
+use Rattle.insn.specs.declared.Width.the-variants.{B8, B16, B32, B64}
+use Rattle.lanes.specs.Lane.{readAs, greater, lesser, onesIf, exact, laneOf, lanewise, lanesOf}
+use Rattle.insn.specs.Widths.{bitsOf}
+use Rattle.lanes.specs.Promises.{EachLane, Split, LaneBelow, LanesBelow, ReadBack, Worked, RowByHalves}
 use Rattle.lanes.proofs.Signs as signs
 use Rattle.lanes.proofs.Lanewise as laws
 
@@ -17,22 +19,22 @@ eachLane = laws.each
 pub split : Split
 split = laws.split
 
-pub row : Row
+pub row : RowByHalves
 unfolding lanesOf
-row op B8 = split (laneOf op 8) 8 8 8
-row op B16 = split (laneOf op 16) 16 4 4
-row op B32 = split (laneOf op 32) 32 2 2
-row op B64 = split (laneOf op 64) 64 1 1
+row op B8 = split (laneOf op 8) 8 8 8 8 8
+row op B16 = split (laneOf op 16) 16 16 16 4 4
+row op B32 = split (laneOf op 32) 32 32 32 2 2
+row op B64 = split (laneOf op 64) 64 64 64 1 1
 
 pub laneBelow : LaneBelow
 unfolding laneOf
-laneBelow op w d n m = signs.modulo-lt w (exact op w d n m)
+laneBelow op w d n m = modulo-lt w (exact op w d n m)
 
 pub lanesBelow : LanesBelow
 unfolding lanesOf
 lanesBelow size op w d n m =
     let b = bitsOf w in
-    lt-of-lt-of-le (laws.lanes-lt (laneOf op b) b (laneBelow op b) (size / b) d n m) (pow-mono (mul-div-le size b))
+    lt-of-lt-of-le (laws.lanes-lt (laneOf op b) b b b (laneBelow op b) (size / b) d n m) (pow-mono (mul-div-le size b))
 
 pub readBack : ReadBack
 readBack = signs.again

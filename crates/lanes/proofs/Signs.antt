@@ -5,22 +5,19 @@ use mathlib.Core.Bool.{Bool, true, false, not}
 use Prim.Native.Nat.{ℕ, suc, _+_, _-_, _*_, _/_, _%_, _^_, _≤_, _<_}
 use native.Mathlib.Nat.{mod-eq-of-lt, mod-lt, mod-add-mod, add-mod-mod, add-mod-right, add-mul-mod-self-right, div-add-mod', lt-of-le-of-lt, add-mul, suc-mul, mul-le-mul-right}
 use native.Mathlib.Omega.{arith}
-use lib.Pow.{pow-pos, pow-add, shl-lt, shl-shr, shr-le, high, ones-lt, ones-sub-lt}
+use lib.Pow.{pow-pos, pow-add, shl-lt, shl-shr, shr-le, high, ones-lt}
 use lib.IntN.{ℤ, pos, negsuc, _-ℤ_}
 use lib.Signed.{mag, ltZ, leZ, shrZ}
 use borrow.Author.Tests.{lt-ltb, le-ltb, le-leb, lt-leb}
 use Rattle.laws.specs.Choice.{choose}
-use Rattle.laws.proofs.Signed.{minus-is, signed-low, signed-high}
-use Rattle.lanes.specs.declared.Sign.{Sign}
-use Rattle.lanes.specs.declared.Sign.the-variants.{Unsigned, Signed}
-use Rattle.lanes.specs.Lane.{readAs, modulo, onesIf}
-use Rattle.lanes.proofs.Numbers.{sides, cut64, twice-half, cancel, shr-out}
-
--- a whole number modulo 2^w is a lane
-pub modulo-lt : (w : ℕ) (z : ℤ) → modulo w z < 2 ^ w
-unfolding modulo
-modulo-lt w (pos n) = mod-lt n (pow-pos w)
-modulo-lt w (negsuc n) = ones-sub-lt w (n % 2 ^ w)
+use Rattle.laws.proofs.Promises.{bitsBack}
+use Rattle.laws.proofs.Signed.{minus-is, modulo-lt, signed-low, signed-high, signed-fits}
+use Rattle.insn.specs.declared.Sign.{Sign}
+use Rattle.insn.specs.declared.Sign.the-variants.{Unsigned, Signed}
+use Rattle.lanes.specs.Lane.{readAs, onesIf}
+use Rattle.laws.specs.Signed.{modulo}
+use Rattle.lanes.proofs.Numbers.{cut64, cancel, shr-out}
+use Rattle.laws.proofs.Tests.{sides}
 
 module _ (w a b : ℕ) where
   minus-up : b ≤ a → modulo w (pos a -ℤ pos b) ≡ (a - b) % 2 ^ w
@@ -67,19 +64,14 @@ module _ (w x : ℕ) where
 
   -- it fits w bits in two's complement
   pub read-fits : 0 < w → x < 2 ^ w → mag (readAs Signed w x) < 2 ^ (w - 1)
-  read-fits z l =
-      sides (2 ^ (w - 1)) x (λ h. rw (read-low h) h)
-      (λ h. let t = twice-half w z in
-      rw (read-high l h) (omega arith))
+  unfolding readAs
+  read-fits z l = signed-fits w x z l
 
 -- read by sign and taken modulo 2^w, it is the lane again
 pub again : (s : Sign) (w x : ℕ) → x < 2 ^ w → modulo w (readAs s w x) ≡ x
 unfolding modulo readAs
 again Unsigned w x l = mod-eq-of-lt l
-again Signed w x l =
-    sides (2 ^ (w - 1)) x (λ h. rw (read-low w x h) (mod-eq-of-lt l))
-    (λ h. let e : 2 ^ w - 1 - x < 2 ^ w = omega arith in
-    rw (read-high w x l h, mod-eq-of-lt e) (omega arith))
+again Signed w x l = bitsBack w x l
 
 -- at least is not less
 pub le-not-lt : (a b : ℤ) → leZ b a ≡ not (ltZ a b)

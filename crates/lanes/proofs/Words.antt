@@ -13,7 +13,7 @@ use mir.Syntax.{w64}
 use mir.Val.{toZ, ofZ, SFits}
 use mir.ValLaws.{toZ-ofZ, toZ-pos, sfits-le}
 use Rattle.laws.proofs.Never.{wrong}
-use Rattle.lanes.specs.declared.Sign.the-variants.{Signed}
+use Rattle.insn.specs.declared.Sign.the-variants.{Signed}
 use Rattle.lanes.specs.Lane.{readAs}
 use Rattle.lanes.proofs.Signs.{read-fits}
 

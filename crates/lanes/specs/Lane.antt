@@ -5,14 +5,14 @@ use Prim.Native.Nat.{ℕ, zero, suc, _+_, _-_, _*_, _/_, _%_, _^_}
 use mathlib.Core.Bool.{Bool, not}
 use lib.Dec.{eqb}
 use lib.Bits.{bitAnd}
-use lib.IntN.{ℤ, pos, negsuc, _+ℤ_, _-ℤ_, _*ℤ_}
+use lib.IntN.{ℤ, pos, _+ℤ_, _-ℤ_, _*ℤ_}
 use lib.Signed.{ltZ, leZ, shrZ}
 use Rattle.laws.specs.Choice.{choose}
-use Rattle.laws.specs.Signed.{twosComplement}
-use Rattle.lanes.specs.declared.Width.{Width}
-use Rattle.lanes.specs.declared.Width.the-variants.{B8, B16, B32, B64}
-use Rattle.lanes.specs.declared.Sign.{Sign}
-use Rattle.lanes.specs.declared.Sign.the-variants.{Unsigned, Signed}
+use Rattle.laws.specs.Signed.{twosComplement, modulo}
+use Rattle.insn.specs.declared.Width.{Width}
+use Rattle.insn.specs.Widths.{bitsOf}
+use Rattle.insn.specs.declared.Sign.{Sign}
+use Rattle.insn.specs.declared.Sign.the-variants.{Unsigned, Signed}
 use Rattle.lanes.specs.declared.LaneOp.{LaneOp}
 use Rattle.lanes.specs.declared.LaneOp.the-variants.{Add, Sub, Mul, Mla, Mls, Max, Min, Cgt, Cge, Ceq, Tst, Shl, Shr}
 
@@ -20,11 +20,6 @@ use Rattle.lanes.specs.declared.LaneOp.the-variants.{Add, Sub, Mul, Mla,
 unfoldable pub readAs : Sign → ℕ → ℕ → ℤ
 readAs Unsigned w x = pos x
 readAs Signed w x = twosComplement w x
-
--- a whole number modulo 2^w, from 0 to 2^w - 1; negsuc n is -(n + 1)
-unfoldable pub modulo : ℕ → ℤ → ℕ
-modulo w (pos n) = n % 2 ^ w
-modulo w (negsuc n) = 2 ^ w - 1 - n % 2 ^ w
 
 -- the greater and the lesser of two whole numbers
 unfoldable pub greater : ℤ → ℤ → ℤ
@@ -58,18 +53,12 @@ exact (Shr s k) w d n m = shrZ (readAs s w n) (2 ^ k)
 unfoldable pub laneOf : LaneOp → ℕ → ℕ → ℕ → ℕ → ℕ
 laneOf op w d n m = modulo w (exact op w d n m)
 
--- f at each of k lanes of w bits: at lane 0, and above it at the k - 1 lanes that are left
-unfoldable pub lanewise : (ℕ → ℕ → ℕ → ℕ) → ℕ → ℕ → ℕ → ℕ → ℕ → ℕ
-lanewise f w zero d n m = 0
-lanewise f w (suc k) d n m = f (d % 2 ^ w) (n % 2 ^ w) (m % 2 ^ w) + 2 ^ w * lanewise f w k (d / 2 ^ w) (n / 2 ^ w) (m / 2 ^ w)
-
--- the bits of a lane
-abbrev pub bitsOf : Width → ℕ
-bitsOf B8 = 8
-bitsOf B16 = 16
-bitsOf B32 = 32
-bitsOf B64 = 64
+-- f at each of k lanes, the target's of wd bits and the sources' of wn and wm: at lane 0, and above it at the k - 1 that are left
+unfoldable pub lanewise : (ℕ → ℕ → ℕ → ℕ) → ℕ → ℕ → ℕ → ℕ → ℕ → ℕ → ℕ → ℕ
+lanewise f wd wn wm zero d n m = 0
+lanewise f wd wn wm (suc k) d n m =
+    f (d % 2 ^ wd) (n % 2 ^ wn) (m % 2 ^ wm) + 2 ^ wd * lanewise f wd wn wm k (d / 2 ^ wd) (n / 2 ^ wn) (m / 2 ^ wm)
 
 -- an operation at each lane of numbers of `size` bits
 unfoldable pub lanesOf : ℕ → LaneOp → Width → ℕ → ℕ → ℕ → ℕ
-lanesOf size op w d n m = lanewise (laneOf op (bitsOf w)) (bitsOf w) (size / bitsOf w) d n m
+lanesOf size op w d n m = let b = bitsOf w in lanewise (laneOf op b) b b b (size / b) d n m

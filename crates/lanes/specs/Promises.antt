@@ -2,34 +2,35 @@
 -- Assumes nothing.
 use mathlib.Core.Path.{_≡_}
 use Prim.Native.Nat.{ℕ, _+_, _*_, _/_, _%_, _^_, _<_}
-use Rattle.lanes.specs.declared.Width.{Width}
-use Rattle.lanes.specs.declared.Width.the-variants.{B16}
-use Rattle.lanes.specs.declared.Sign.{Sign}
-use Rattle.lanes.specs.declared.Sign.the-variants.{Unsigned, Signed}
+use Rattle.insn.specs.declared.Width.{Width}
+use Rattle.insn.specs.declared.Width.the-variants.{B16}
+use Rattle.insn.specs.declared.Sign.{Sign}
+use Rattle.insn.specs.declared.Sign.the-variants.{Unsigned, Signed}
 use Rattle.lanes.specs.declared.LaneOp.{LaneOp}
 use Rattle.lanes.specs.declared.LaneOp.the-variants.{Add, Sub, Mul, Mla, Mls, Max, Min, Cgt, Cge, Ceq, Tst, Shl, Shr}
-use Rattle.lanes.specs.Lane.{readAs, modulo, laneOf, lanewise, lanesOf}
+use Rattle.lanes.specs.Lane.{readAs, laneOf, lanewise, lanesOf}
+use Rattle.laws.specs.Signed.{modulo}
 
 -- lane i of x, where lanes have w bits
 abbrev pub laneAt : ℕ → ℕ → ℕ → ℕ
 laneAt w i x = x / 2 ^ (w * i) % 2 ^ w
 
--- lane i of the result is f of lane i of each operand, for every width
+-- lane i of the result is f of lane i of each operand, for every three widths
 abbrev pub EachLane : Type 0
 EachLane =
-    (f : ℕ → ℕ → ℕ → ℕ) (w : ℕ) → ((d n m : ℕ) → f d n m < 2 ^ w)
-    → (k i d n m : ℕ) → i < k → laneAt w i (lanewise f w k d n m) ≡ f (laneAt w i d) (laneAt w i n) (laneAt w i m)
+    (f : ℕ → ℕ → ℕ → ℕ) (wd wn wm : ℕ) → ((d n m : ℕ) → f d n m < 2 ^ wd)
+    → (k i d n m : ℕ) → i < k → laneAt wd i (lanewise f wd wn wm k d n m) ≡ f (laneAt wd i d) (laneAt wn i n) (laneAt wm i m)
 
--- j lanes a, c, e below k lanes b, d, g: lane-wise on the joined numbers is lane-wise on their parts, for every width
+-- j lanes a, c, e below k lanes b, d, g: lane-wise on the joined numbers is lane-wise on their parts, for every three widths
 abbrev pub Split : Type 0
 Split =
-    (f : ℕ → ℕ → ℕ → ℕ) (w j k a b c d e g : ℕ) → a < 2 ^ (w * j) → c < 2 ^ (w * j) → e < 2 ^ (w * j)
-    → lanewise f w (j + k) (a + 2 ^ (w * j) * b) (c + 2 ^ (w * j) * d) (e + 2 ^ (w * j) * g)
-    ≡ lanewise f w j a c e + 2 ^ (w * j) * lanewise f w k b d g
+    (f : ℕ → ℕ → ℕ → ℕ) (wd wn wm j k a b c d e g : ℕ) → a < 2 ^ (wd * j) → c < 2 ^ (wn * j) → e < 2 ^ (wm * j)
+    → lanewise f wd wn wm (j + k) (a + 2 ^ (wd * j) * b) (c + 2 ^ (wn * j) * d) (e + 2 ^ (wm * j) * g)
+    ≡ lanewise f wd wn wm j a c e + 2 ^ (wd * j) * lanewise f wd wn wm k b d g
 
 -- its case for a row of 128 bits, which is two halves of 64
-abbrev pub Row : Type 0
-Row =
+abbrev pub RowByHalves : Type 0
+RowByHalves =
     (op : LaneOp) (w : Width) (a b c d e g : ℕ) → a < 2 ^ 64 → c < 2 ^ 64 → e < 2 ^ 64
     → lanesOf 128 op w (a + 2 ^ 64 * b) (c + 2 ^ 64 * d) (e + 2 ^ 64 * g) ≡ lanesOf 64 op w a c e + 2 ^ 64 * lanesOf 64 op w b d g
 

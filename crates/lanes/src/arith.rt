@@ -2,7 +2,8 @@
 ghost use mathlib.Core.Path.{_≡_};
 ghost use Prim.Native.Nat.{_+_, _-_, _*_, _/_, _%_, _^_, _<_, _≤_};
 ghost use lib.IntN.{pos, _-ℤ_};
-ghost use Rattle.lanes.specs.Lane.{modulo, onesIf};
+ghost use Rattle.lanes.specs.Lane.{onesIf};
+ghost use Rattle.laws.specs.Signed.{modulo};
 
 // The number with its lowest w bits set.
 pub fn ones(w: u32) -> u64

@@ -8,27 +8,16 @@ use arith::left;
 use arith::ones_if;
 use arith::product;
 use arith::sum;
+use insn::Sign;
+use insn::Width;
+use insn::widths::bits;
 use whole::greatest;
 use whole::least;
 use whole::less;
 use whole::right;
 ghost use mathlib.Core.Path.{_≡_};
 ghost use Prim.Native.Nat.{_+_, _-_, _*_, _/_, _%_, _^_, _<_, _≤_};
-ghost use Rattle.lanes.specs.Lane.{laneOf, bitsOf, lanesOf};
-
-// How many bits a lane has.
-pub enum Width {
-    B8,
-    B16,
-    B32,
-    B64,
-}
-
-// How a lane is read: as a number from 0, or in two's complement.
-pub enum Sign {
-    Unsigned,
-    Signed,
-}
+ghost use Rattle.lanes.specs.Lane.{laneOf, lanesOf};
 
 // A lane operation, by its instruction's name. A shift carries its amount, and reads n alone.
 pub enum LaneOp {
@@ -75,18 +64,6 @@ fn place(op: LaneOp, w: u32, at: u32, out: u64, d: u64, n: u64, m: u64) -> u64
     ensures { λ r. ⌜ r ≡ out + 2 ^ at * laneOf op w (d / 2 ^ at % 2 ^ w) (n / 2 ^ at % 2 ^ w) (m / 2 ^ at % 2 ^ w) ⌝ }
 {
     out + (lane(op, w, cut(w, d >> at), cut(w, n >> at), cut(w, m >> at)) << at)
-}
-
-// A width as a number.
-fn bits(w: Width) -> u32
-    ensures { λ r. ⌜ r ≡ bitsOf w ⌝ }
-{
-    match w {
-        Width::B8 => 8,
-        Width::B16 => 16,
-        Width::B32 => 32,
-        Width::B64 => 64,
-    }
 }
 
 // The operation at each lane of a word, from the highest down: d the old target, n and m the sources.

@@ -1,13 +1,14 @@
 // Lanes read by sign. A signed lane is an i64, and goes back to its bits.
-use crate::Sign;
 use crate::arith::cut;
 use crate::arith::ones;
-use immediates::signed::signed_of;
+use insn::Sign;
+use insn::signed::signed_of;
 ghost use mathlib.Core.Path.{_≡_};
 ghost use Prim.Native.Nat.{_^_, _<_, _≤_};
 ghost use lib.Signed.{ltZ, shrZ};
-ghost use Rattle.lanes.specs.declared.Sign.the-variants.{Signed};
-ghost use Rattle.lanes.specs.Lane.{readAs, modulo, greater, lesser};
+ghost use Rattle.insn.specs.declared.Sign.the-variants.{Signed};
+ghost use Rattle.lanes.specs.Lane.{readAs, greater, lesser};
+ghost use Rattle.laws.specs.Signed.{modulo};
 
 // A lane in two's complement: its top bit goes to the top of a word, and the shift back copies it.
 fn signed(w: u32, x: u64) -> i64

@@ -1,6 +1,9 @@
 pub mod Digits
+pub mod Filled
 pub mod Never
 pub mod Padded
+pub mod Placed
+pub mod Promises
 pub mod Range
 pub mod Search
 pub mod Signed

@@ -1,6 +1,7 @@
 // Lists the pairs of standard input on standard output.
 ghost use mathlib.Core.Path.{_≡_};
 ghost use lib.ListN.{length};
+ghost use Rattle.listing.specs.Answers.{enough};
 use libc::STDIN_FILENO;
 use libc::STDOUT_FILENO;
 use listing::ENOUGH;
@@ -15,7 +16,7 @@ fn input_buffer() -> [u8; 65537]
 
 // Room for every listing.
 fn output_buffer() -> [u8; ENOUGH]
-    ensures { λ r. ⌜ 901132 ≡ length r ⌝ }
+    ensures { λ r. ⌜ enough ≡ length r ⌝ }
 {
     [0; ENOUGH]
 }

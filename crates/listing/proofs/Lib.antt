@@ -1,9 +1,3 @@
-pub mod Sets
-pub mod Decimal
-pub mod Signs
-pub mod Names
-pub mod Endings
-pub mod Registers
 pub mod Short
 pub mod PairLines
 pub mod Whole

@@ -13,14 +13,14 @@ use Rattle.laws.specs.Choice.{choose}
 use Rattle.laws.specs.Search.{firstFrom}
 use Rattle.laws.specs.Signed.{twosComplement}
 use Rattle.tables.specs.Modimm.{modimm}
-use Rattle.tables.specs.Names.{names, nameOf, numberOf, pairwise, codes}
+use Rattle.names.specs.Names.{names, nameOf, numberOf, pairwise, codes}
 use Rattle.tables.specs.Same3.{same3}
 use Rattle.tables.specs.Shift.{shiftRows, shiftCells, shiftClasses, vmovl}
 use Rattle.fields.specs.Registers.{vecOf}
 use Rattle.immediates.specs.Floats.{floatOf}
 use Rattle.immediates.specs.Found.{findFloat}
 use Rattle.immediates.specs.Modified.{constantAt, element, operandIn, needsNonzero}
-use Rattle.immediates.specs.Shifts.{isEscape, codeOf, rightEnd, leftStart}
+use Rattle.immediates.specs.Shifts.{isEscape, rightEnd, leftStart, sizeCode}
 use Rattle.decode.specs.Operands.{two, three}
 use Rattle.decode.specs.Same3.{same3Of, same3Reading}
 use Rattle.decode.specs.Shift.{forbidden, columnOf, shiftOf, shiftReading}
@@ -28,12 +28,12 @@ use Rattle.decode.specs.Modimm.{modimmOf, modimmReading}
 use Rattle.decode.specs.Reading.{familyOf, inFamily, reading}
 use Rattle.listing.specs.declared.Listed.{Listed}
 use Rattle.listing.specs.declared.Listed.the-variants.{Length, TooShort}
-use Rattle.listing.specs.Answers.{listedAnswer}
-use Rattle.listing.specs.Listing.{halfwordAt, readingText, lineText, pairLine, below, isListable, lines, text}
+use Rattle.listing.specs.Answers.{listedAnswer, enough}
+use Rattle.listing.specs.Listing.{halfwordAt, readingText, lineText, pairLine, numbersBelow, isListable, lines, endedLines}
 use Rattle.listing.specs.Promises.{ListedApart, NeverLonger, Sample}
-use Rattle.listing.specs.Operands.{overText, operandText, joined, insnText}
-use Rattle.listing.specs.Text.{digits, decimal, minus, signed, hex4}
-use Rattle.listing.proofs.Decimal.{within}
+use Rattle.display.specs.Operands.{overText, operandText, withCommas, insnText}
+use Rattle.text.specs.Text.{digits, decimal, minus, signedDecimal, hex4}
+use Rattle.text.proofs.Decimal.{within}
 use Rattle.listing.proofs.PairLines.{one-more}
 use Rattle.listing.proofs.Short.{line-short}
 use Rattle.listing.proofs.Whole.{listable}
@@ -57,24 +57,24 @@ pair-short bytes i h =
     let hw2 = halfwordAt bytes (4 * i + 2) in
     omega (arith, length-append (lineText i hw1 hw2) (10 ∷ []), line-short i hw1 hw2 (omega arith))
 
-pairs-short : (bytes : List ℕ) (n : ℕ) → n ≤ 16384 → length (text (map (pairLine bytes) (below n))) ≤ 55 * n
-unfolding below text
+pairs-short : (bytes : List ℕ) (n : ℕ) → n ≤ 16384 → length (endedLines (map (pairLine bytes) (numbersBelow n))) ≤ 55 * n
+unfolding numbersBelow endedLines
 pairs-short bytes zero h = omega arith
 pairs-short bytes (suc n) h =
     let e = rw add-one at (one-more bytes n) in
-    let before = text (map (pairLine bytes) (below n)) in
+    let before = endedLines (map (pairLine bytes) (numbersBelow n)) in
     omega (arith, ap length e, length-append before (pairLine bytes n ++ 10 ∷ []), pairs-short bytes n (omega arith), pair-short bytes n (omega arith))
 
 pub neverLonger : NeverLonger
-unfolding lines text codes
+unfolding lines endedLines codes
 neverLonger bytes = go (isListable (length bytes)) refl
   where
     go : (b : Bool) → isListable (length bytes) ≡ b
-        → length (text (choose b ((codes "pairs " ++ decimal (length bytes / 4)) ∷ map (pairLine bytes) (below (length bytes / 4))) (codes "refused 11" ∷ []))) ≤ 901132
+        → length (endedLines (choose b ((codes "pairs " ++ decimal (length bytes / 4)) ∷ map (pairLine bytes) (numbersBelow (length bytes / 4))) (codes "refused 11" ∷ []))) ≤ enough
     go true e =
         let n = length bytes / 4 in
         let h = listable (length bytes) e in
-        let rest = text (map (pairLine bytes) (below n)) in
+        let rest = endedLines (map (pairLine bytes) (numbersBelow n)) in
         omega (
           arith,
           h,
@@ -86,5 +86,5 @@ neverLonger bytes = go (isListable (length bytes)) refl
     go false e = omega arith
 
 pub sample : Sample
-unfolding digits decimal minus signed hex4 overText operandText joined insnText readingText lineText pairLine below isListable lines text codes findFloat firstFrom eq reading inFamily familyOf same3Of same3Reading shiftOf shiftReading modimmOf modimmReading two three same3 shiftRows shiftCells shiftClasses forbidden columnOf vmovl modimm names nameOf numberOf pairwise vecOf isEscape codeOf rightEnd leftStart constantAt element operandIn needsNonzero twosComplement floatOf odd
+unfolding digits decimal minus signedDecimal hex4 overText operandText withCommas insnText readingText lineText pairLine numbersBelow isListable lines endedLines codes findFloat firstFrom eq reading inFamily familyOf same3Of same3Reading shiftOf shiftReading modimmOf modimmReading two three same3 shiftRows shiftCells shiftClasses forbidden columnOf vmovl modimm names nameOf numberOf pairwise vecOf isEscape sizeCode rightEnd leftStart constantAt element operandIn needsNonzero twosComplement floatOf odd
 sample = refl

@@ -13,7 +13,7 @@ use lib.ListN.{length, length-append}
 use lib.Text.{eqt}
 use borrow.Author.Tests.{leb-true, ltb-true}
 use Rattle.laws.specs.Answer.{Answer, accepted, refused}
-use Rattle.laws.specs.Choice.{choose}
+use Rattle.laws.specs.Choice.{choose, both}
 use Rattle.laws.specs.Search.{Found, at, none}
 use Rattle.laws.specs.Signed.{twosComplement}
 use Rattle.laws.proofs.Range.{values, agree, agree2}
@@ -25,50 +25,34 @@ use Rattle.insn.specs.declared.Operand.{Operand}
 use Rattle.insn.specs.declared.Operand.the-variants.{D, Q, S, Imm, Float, Other, Absent}
 use Rattle.tables.specs.Cells.{cellAt}
 use Rattle.tables.specs.Modimm.{modimm}
-use Rattle.tables.specs.Names.{codes, nameOf, numberOf, pairwise}
+use Rattle.names.specs.Names.{codes, nameOf, numberOf, pairwise}
 use Rattle.tables.specs.Shift.{shiftCells, vmovl}
 use Rattle.tables.specs.declared.DiffShape.{DiffShape}
 use Rattle.tables.specs.declared.DiffShape.the-variants.{Long as LongRow, Wide, Narrow as NarrowRow}
 use Rattle.tables.specs.declared.ShiftClass.{ShiftClass}
 use Rattle.tables.specs.declared.ShiftClass.the-variants.{Right, Left, Narrow, Long, Convert}
-use Rattle.tables.proofs.Spellings.{short}
+use Rattle.names.proofs.Spellings.{short}
 use Rattle.fields.specs.Registers.{vecOf}
 use Rattle.immediates.specs.Floats.{kOf}
 use Rattle.immediates.specs.Found.{findFloat}
 use Rattle.immediates.specs.Modified.{constantAt, element, operandIn, modimmOperand, needsNonzero}
-use Rattle.immediates.specs.Shifts.{codeOf, rightEnd, leftStart, amountOf}
-use Rattle.decode.specs.Operands.{both, two, three}
+use Rattle.immediates.specs.Shifts.{rightEnd, leftStart, amountOf, sizeCode}
+use Rattle.decode.specs.Operands.{two, three}
 use Rattle.decode.specs.Same3.{shiftsByRegister, same3Of, same3Reading}
-use Rattle.decode.specs.Diff.{shaped, diffOf, diffReading}
-use Rattle.decode.specs.Shift.{forbidden, columnOf, amount, longOf, shifted, shiftOf, shiftReading}
+use Rattle.decode.specs.Diff.{diffOf, diffReading}
+use Rattle.decode.specs.Shift.{forbidden, columnOf, amount, shifted, shiftOf, shiftReading, isLongByZero}
 use Rattle.decode.specs.Modimm.{modimmOf, modimmReading}
 use Rattle.decode.specs.Reading.{familyOf, inFamily, reading}
 use Rattle.decode.specs.declared.Family.{Family}
 use Rattle.decode.specs.declared.Family.the-variants.{ThreeSame, ThreeDifferent, Shift, ModifiedImmediate, NoFamily}
-use Rattle.listing.specs.Text.{decimal, minus, signed, hex4}
-use Rattle.listing.specs.Operands.{overText, operandText, joined, insnText}
+use Rattle.text.specs.Text.{decimal, minus, signedDecimal, hex4}
+use Rattle.display.specs.Operands.{overText, operandText, withCommas, insnText}
 use Rattle.listing.specs.Listing.{readingText, lineText}
-use Rattle.listing.proofs.Decimal.{within}
+use Rattle.text.proofs.Decimal.{within}
+use Rattle.display.proofs.Short.{over-short}
+use Rattle.tables.specs.Lengths.{shapeLengths, classLengths}
 
 -- ---- operands
-
-k-small : (b : ℕ) → kOf b < 10 ^ 4
-unfolding values
-k-small b =
-    let p : 2 ^ ((b / 16 + 4) % 8) ≤ 128 = leb-true (2 ^ ((b / 16 + 4) % 8)) 128 (agree (λ (k : ℕ). leb (2 ^ k) 128) (λ (k : ℕ). true) 8 refl ((b / 16 + 4) % 8) (omega arith)) in
-    let q : 16 + b % 16 ≤ 31 = omega arith in
-    omega (arith, mul-le-mul q p)
-
-minus-short : (b : Bool) → length (minus b) ≤ 1
-unfolding minus
-minus-short true = omega arith
-minus-short false = omega arith
-
-pub over-short : (f : Found) → length (overText f) ≤ 9
-unfolding overText codes
-over-short (at b) =
-    rw (length-append, length-append) (omega (arith, minus-short (leb 128 b), within 3 (kOf b) (k-small b)))
-over-short none = omega arith
 
 -- a number that is small enough to be short
 small : Operand → Bool
@@ -82,7 +66,7 @@ small Other = true
 small Absent = true
 
 operand-short : (o : Operand) → small o ≡ true → length (operandText o) ≤ 21
-unfolding operandText small signed
+unfolding operandText small signedDecimal
 operand-short (D n) e = omega (arith, within 1 n (omega (arith, ltb-true n 32 e)))
 operand-short (Q n) e = omega (arith, within 1 n (omega (arith, ltb-true n 32 e)))
 operand-short (S n) e = wrong e
@@ -107,7 +91,7 @@ vec-fits true d h = go (eqb (d % 2) 0)
     go false = omega arith
 
 amount-fits : (k : ℕ) → k < 1000 → Fits 4 (amount k)
-unfolding operandText signed
+unfolding operandText signedDecimal
 amount-fits k h = omega (arith, within 2 k (omega arith))
 
 -- ---- readings
@@ -124,14 +108,14 @@ either true x y p q = p
 either false x y p q = q
 
 two-short : (m : ℕ) (mark : Mark) (address : ℕ) (x y : Answer Operand) → Fits 3 x → Fits 21 y → Short (two m mark address x y)
-unfolding two Short readingText insnText joined
+unfolding two Short readingText insnText withCommas
 two-short m mark address (accepted a) (accepted b) p q =
     omega (arith, short m, length-append (codes (nameOf m)) (32 ∷ (operandText a ++ 44 ∷ operandText b)), length-append (operandText a) (44 ∷ operandText b))
 two-short m mark address (accepted a) (refused n) p q = refusal-short n q
 two-short m mark address (refused n) y p q = refusal-short n p
 
 three-short : (m : ℕ) (mark : Mark) (address : ℕ) (x y z : Answer Operand) → Fits 3 x → Fits 3 y → Fits 4 z → Short (three m mark address x y z)
-unfolding three Short readingText insnText joined
+unfolding three Short readingText insnText withCommas
 three-short m mark address (accepted a) (accepted b) (accepted c) p q r =
     omega (
       arith,
@@ -169,18 +153,14 @@ same3-short name quad opc d n m address hd hn hm =
     (either (shiftsByRegister opc) _ _ (three-vecs (numberOf name) T1 address quad quad quad d m n hd hm hn)
     (three-vecs (numberOf name) T1 address quad quad quad d n m hd hn hm))))
 
-shaped-short : (shape : DiffShape) (k : ℕ) (mark : Mark) (d n m address : ℕ) → d < 32 → n < 32 → m < 32 → Short (shaped shape k mark d n m address)
-unfolding shaped
-shaped-short LongRow k mark d n m address hd hn hm = three-vecs k mark address true false false d n m hd hn hm
-shaped-short Wide k mark d n m address hd hn hm = three-vecs k mark address true true false d n m hd hn hm
-shaped-short NarrowRow k mark d n m address hd hn hm = three-vecs k mark address false true true d n m hd hn hm
-
 diff-short : (name : String) (shape : DiffShape) (mark : Mark) (d n m address : ℕ) → d < 32 → n < 32 → m < 32 → Short (diffOf name shape mark d n m address)
 unfolding diffOf
-diff-short name shape mark d n m address hd hn hm = either (eqt name "") _ _ (refusal-short 3 (omega arith)) (shaped-short shape (numberOf name) mark d n m address hd hn hm)
+diff-short name shape mark d n m address hd hn hm =
+    let quad = shapeLengths shape in
+    either (eqt name "") _ _ (refusal-short 3 (omega arith)) (three-vecs (numberOf name) mark address (quad .d) (quad .n) (quad .m) d n m hd hn hm)
 
 amount-small : (class : ShiftClass) (l imm6 : ℕ) → l < 2 → imm6 < 64 → amountOf class l imm6 < 1000
-unfolding values codeOf rightEnd leftStart
+unfolding values sizeCode rightEnd leftStart
 amount-small Right l i hl hi = ltb-true _ _ (agree2 (λ (l i : ℕ). ltb (amountOf Right l i) 1000) (λ (l i : ℕ). true) 2 64 refl l i hl hi)
 amount-small Narrow l i hl hi = ltb-true _ _ (agree2 (λ (l i : ℕ). ltb (amountOf Narrow l i) 1000) (λ (l i : ℕ). true) 2 64 refl l i hl hi)
 amount-small Left l i hl hi = ltb-true _ _ (agree2 (λ (l i : ℕ). ltb (amountOf Left l i) 1000) (λ (l i : ℕ). true) 2 64 refl l i hl hi)
@@ -191,13 +171,10 @@ with-amount : (m address : ℕ) (qa qb : Bool) (a b k : ℕ) → a < 32 → b < 
 with-amount m address qa qb a b k ha hb hk = three-short m T1 address (vecOf qa a) (vecOf qb b) (amount k) (vec-fits qa a ha) (vec-fits qb b hb) (amount-fits k hk)
 
 shifted-short : (class : ShiftClass) (n moved : ℕ) (quad : Bool) (k d m address : ℕ) → d < 32 → m < 32 → k < 1000 → Short (shifted class n moved quad k d m address)
-unfolding shifted longOf
-shifted-short Right n moved quad k d m address hd hm hk = with-amount n address quad quad d m k hd hm hk
-shifted-short Left n moved quad k d m address hd hm hk = with-amount n address quad quad d m k hd hm hk
-shifted-short Narrow n moved quad k d m address hd hm hk = with-amount n address false true d m k hd hm hk
-shifted-short Long n moved quad k d m address hd hm hk =
-    either (eqb k 0) _ _ (two-vecs moved T1 address true false d m hd hm) (with-amount n address true false d m k hd hm hk)
-shifted-short Convert n moved quad k d m address hd hm hk = with-amount n address quad quad d m k hd hm hk
+unfolding shifted
+shifted-short class n moved q k d m address hd hm hk =
+    let quad = classLengths class q in
+    either (isLongByZero class k) _ _ (two-vecs moved T1 address (quad .d) (quad .m) d m hd hm) (with-amount n address (quad .d) (quad .m) d m k hd hm hk)
 
 shift-short : (class : ShiftClass) (u row : ℕ) (quad : Bool) (l imm6 d m address : ℕ) → l < 2 → imm6 < 64 → d < 32 → m < 32 → Short (shiftOf class u row quad l imm6 d m address)
 unfolding shiftOf

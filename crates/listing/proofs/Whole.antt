@@ -1,35 +1,33 @@
 -- A length that is listed, and a listing that fits the buffer or does not.
 -- Assumes nothing.
-use mathlib.Core.Path.{_≡_, refl, _∙_}
+use mathlib.Core.Path.{_≡_, refl}
 use mathlib.Core.Bool.{Bool, true, false}
 use mathlib.Core.List.{List}
 use Prim.Native.Nat.{ℕ, _+_, _%_, _<_, _≤_}
-use native.Mathlib.Nat.{zero-add}
 use native.Mathlib.Omega.{arith}
 use lib.Dec.{eqb, leb}
 use lib.ListN.{length}
-use lib.Seq.{sets, sets-eq}
 use borrow.Author.Tests.{leb-true, le-leb, lt-leb}
 use Rattle.laws.specs.Answer.{accepted, refused}
 use Rattle.laws.specs.Choice.{choose}
 use Rattle.laws.proofs.Never.{never, wrong}
+use Rattle.laws.specs.Placed.{Placed}
+use Rattle.laws.proofs.Placed.{whole}
 use Rattle.listing.specs.Answers.{lengthFor, outAfter}
 use Rattle.listing.specs.Listing.{isListable}
+use Rattle.laws.proofs.Tests.{both-true}
 
 pub listable : (n : ℕ) → isListable n ≡ true → n ≤ 65536
 unfolding isListable
-listable n e = go (eqb (n % 4) 0) e
-  where
-    go : (t : Bool) → choose t (leb n 65536) false ≡ true → n ≤ 65536
-    go true q = leb-true n 65536 q
-    go false q = wrong q
+listable n e = leb-true n 65536 (both-true (eqb (n % 4) 0) (leb n 65536) e .1)
 
-pub fits : (text out l : List ℕ) (r : ℕ) → r ≡ 0 + length text → r ≤ length out → l ≡ sets out 0 text → (accepted r ≡ lengthFor text out) × (l ≡ outAfter text out)
+pub fits : {b r′ : ℕ} (text out l : List ℕ) (r : ℕ) → Placed b out 0 text l r′ → r ≡ 0 + length text → r ≤ length out → (accepted r ≡ lengthFor text out) × (l ≡ outAfter text out)
 unfolding lengthFor outAfter
-fits text out l r e h q =
+fits text out l r p e h =
     let k : length text ≡ r = omega arith in
-    let t = le-leb (length text) (length out) (omega arith) in
-    (rw (t, k), rw t (q ∙ sets-eq text out 0 (omega arith) ∙ rw zero-add))
+    let q : length text ≤ length out = omega arith in
+    let t = le-leb (length text) (length out) q in
+    (rw (t, k), rw t (whole q p))
 
 pub too-short : (text out : List ℕ) (r : ℕ) → r ≡ 0 + length text → length out < r → (refused 14 ≡ lengthFor text out) × (out ≡ outAfter text out)
 unfolding lengthFor outAfter

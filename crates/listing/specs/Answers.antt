@@ -1,7 +1,7 @@
 -- What a listing answers and leaves in the buffer.
 -- Assumes nothing.
 use mathlib.Core.List.{List, _++_}
-use Prim.Native.Nat.{ℕ}
+use Prim.Native.Nat.{ℕ, _+_, _*_}
 use lib.Dec.{leb}
 use lib.ListN.{length, drop}
 use Rattle.laws.specs.Answer.{Answer, accepted, refused}
@@ -21,3 +21,7 @@ lengthFor text out = choose (leb (length text) (length out)) (accepted (length t
 -- the text and then what was there; all as it was where the buffer is shorter
 unfoldable pub outAfter : List ℕ → List ℕ → List ℕ
 outAfter text out = choose (leb (length text) (length out)) (text ++ drop (length text) out) out
+
+-- the first line has at most 12 bytes, each of at most 16384 pairs a line of at most 55
+abbrev pub enough : ℕ
+enough = 12 + 55 * 16384

@@ -1,17 +1,17 @@
 -- The listing of a list of bytes: document 01, 'Pairs to check', its last paragraphs.
 -- Assumes nothing.
-use mathlib.Core.Bool.{Bool, false}
+use mathlib.Core.Bool.{Bool}
 use mathlib.Core.List.{List, [], _∷_, _++_, map}
 use Prim.Native.Nat.{ℕ, zero, suc, _+_, _*_, _/_, _%_}
 use lib.Dec.{eqb, leb}
 use lib.ListN.{getD, length}
 use Rattle.laws.specs.Answer.{Answer, accepted, refused}
-use Rattle.laws.specs.Choice.{choose}
+use Rattle.laws.specs.Choice.{choose, both}
 use Rattle.insn.specs.declared.Insn.{Insn}
-use Rattle.tables.specs.Names.{codes}
+use Rattle.names.specs.Names.{codes}
 use Rattle.decode.specs.Reading.{reading}
-use Rattle.listing.specs.Text.{decimal, hex4}
-use Rattle.listing.specs.Operands.{insnText}
+use Rattle.text.specs.Text.{decimal, hex4}
+use Rattle.display.specs.Operands.{insnText}
 
 -- the halfword whose lower byte is at place k
 abbrev pub halfwordAt : List ℕ → ℕ → ℕ
@@ -31,26 +31,26 @@ unfoldable pub pairLine : List ℕ → ℕ → List ℕ
 pairLine bytes i = lineText i (halfwordAt bytes (4 * i)) (halfwordAt bytes (4 * i + 2))
 
 -- the numbers below n
-unfoldable pub below : ℕ → List ℕ
-below zero = []
-below (suc n) = below n ++ n ∷ []
+unfoldable pub numbersBelow : ℕ → List ℕ
+numbersBelow zero = []
+numbersBelow (suc n) = numbersBelow n ++ n ∷ []
 
 -- a multiple of 4, and not too great
 unfoldable pub isListable : ℕ → Bool
-isListable n = choose (eqb (n % 4) 0) (leb n 65536) false
+isListable n = both (eqb (n % 4) 0) (leb n 65536)
 
 -- the lines: the number of pairs, and a line for each pair
 unfoldable pub lines : List ℕ → List (List ℕ)
 lines bytes =
     choose (isListable (length bytes))
-    ((codes "pairs " ++ decimal (length bytes / 4)) ∷ map (pairLine bytes) (below (length bytes / 4)))
+    ((codes "pairs " ++ decimal (length bytes / 4)) ∷ map (pairLine bytes) (numbersBelow (length bytes / 4)))
     (codes "refused 11" ∷ [])
 
 -- every line ends in one byte 10
-unfoldable pub text : List (List ℕ) → List ℕ
-text [] = []
-text (l ∷ ls) = l ++ 10 ∷ text ls
+unfoldable pub endedLines : List (List ℕ) → List ℕ
+endedLines [] = []
+endedLines (l ∷ ls) = l ++ 10 ∷ endedLines ls
 
 -- the whole listing
 abbrev pub listing : List ℕ → List ℕ
-listing bytes = text (lines bytes)
+listing bytes = endedLines (lines bytes)

@@ -4,24 +4,24 @@ use mathlib.Core.List.{List, [], _∷_}
 use mathlib.Core.Path.{_≡_}
 use Prim.Native.Nat.{ℕ, _≤_}
 use lib.ListN.{length}
-use Rattle.tables.specs.Names.{codes}
+use Rattle.names.specs.Names.{codes}
 use Rattle.listing.specs.declared.Listed.{Listed}
-use Rattle.listing.specs.Answers.{listedAnswer}
-use Rattle.listing.specs.Listing.{text, listing}
+use Rattle.listing.specs.Answers.{listedAnswer, enough}
+use Rattle.listing.specs.Listing.{endedLines, listing}
 
 -- an answer says which case it is
 abbrev pub ListedApart : Type 0
 ListedApart = (x y : Listed) → listedAnswer x ≡ listedAnswer y → x ≡ y
 
--- no listing is longer than the constant ENOUGH
+-- no listing is longer than what is always enough
 abbrev pub NeverLonger : Type 0
-NeverLonger = (bytes : List ℕ) → length (listing bytes) ≤ 901132
+NeverLonger = (bytes : List ℕ) → length (listing bytes) ≤ enough
 
 -- document 01's sample
 abbrev pub Sample : Type 0
 Sample =
     listing (0x22 ∷ 0xef ∷ 0x44 ∷ 0x08 ∷ 0x80 ∷ 0xef ∷ 0x30 ∷ 0x0f ∷ 0x87 ∷ 0xef ∷ 0x10 ∷ 0x0f ∷ [])
-    ≡ text
+    ≡ endedLines
     (codes "pairs 3"
     ∷ codes "0 ef22 0844 vadd.i32 q0,q1,q2"
     ∷ codes "1 ef80 0f30 refused 3"

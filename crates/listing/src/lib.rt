@@ -4,8 +4,6 @@ ghost use Rattle.listing.specs.Answers.{listedAnswer, lengthFor, outAfte
 ghost use Rattle.listing.specs.Listing.{listing};
 
 mod lines;
-mod operands;
-mod text;
 
 // What a listing answers: its length, or that the buffer is too short for it.
 pub enum Listed {
@@ -14,14 +12,14 @@ pub enum Listed {
 }
 
 // No listing is longer.
-pub const ENOUGH: usize = 901132;
+pub const ENOUGH: usize = 12 + 55 * 16384;
 
 // Lists the pairs of the input from the start of out, which stays untouched where the listing does not fit.
 pub fn list(input: &[u8], out: &mut [u8]) -> Listed
     ensures answer { λ r. ⌜ listedAnswer r ≡ lengthFor (listing (now (input .entry))) (now (out .entry)) ⌝ }
     ensures after { λ r. ⌜ now (out .exit) ≡ outAfter (listing (now (input .entry))) (now (out .entry)) ⌝ }
 {
-    let names = tables::names::table();
+    let names = names::table();
     if lines::most(input.len()) <= out.len() {
         return Listed::Length(lines::put_listing(out, input, &names));
     }

@@ -3,22 +3,22 @@ ghost use mathlib.Core.Path.{_≡_};
 ghost use mathlib.Core.List.{_∷_, [], _++_, map};
 ghost use Prim.Native.Nat.{_+_, _*_, _/_, _<_, _≤_, _^_};
 ghost use lib.ListN.{length};
-ghost use Rattle.tables.specs.Names.{NameTable};
-ghost use Rattle.decode.specs.Answers.{readingAnswer};
-ghost use Rattle.listing.specs.Listing.{halfwordAt, readingText, lineText, pairLine, below, isListable, text, listing};
-ghost use Rattle.listing.specs.Puts.{Puts, most};
-use crate::operands;
-use crate::text;
+ghost use Rattle.names.specs.Own.{NameTable};
+ghost use Rattle.decode.specs.Reading.{reading};
+ghost use Rattle.listing.specs.Listing.{halfwordAt, readingText, lineText, pairLine, numbersBelow, isListable, endedLines, listing};
+ghost use Rattle.listing.specs.Own.{most};
+ghost use Rattle.laws.specs.Placed.{Placed};
 use decode::Reading;
 
-// A record, or the refusal.
-fn put_reading(out: &mut [u8], at: usize, x: Reading, names: &[u8; 4152]) -> usize
+// The record that a pair reads as, or the refusal.
+fn put_reading(out: &mut [u8], at: usize, hw1: u16, hw2: u16, names: &[u8; 4152]) -> usize
     requires { ⌜ NameTable (now names) ⌝ }
     requires { ⌜ at < 2 ^ 54 ⌝ }
-    ensures { λ r. ⌜ Puts 78 (now (out .entry)) at (readingText (readingAnswer x)) (now (out .exit)) r ⌝ }
+    ensures { λ r. ⌜ Placed 78 (now (out .entry)) at (readingText (reading hw1 hw2 0)) (now (out .exit)) r ⌝ }
 {
+    let x = decode::read(hw1, hw2, 0);
     match x {
-        Reading::Read(i) => operands::put_insn(out, at, i, names),
+        Reading::Read(i) => display::put_insn(out, at, i, names),
         Reading::Refused(f) => {
             let p = text::put_word(out, at, b'r', b'e', b'f', b'u');
             let q = text::put_word(out, p, b's', b'e', b'd', b' ');
@@ -32,13 +32,13 @@ fn put_line(out: &mut [u8], at: usize, i: u64, hw1: u16, hw2: u16, names: &[u8; 
     requires { ⌜ NameTable (now names) ⌝ }
     requires { ⌜ at < 2 ^ 53 ⌝ }
     requires { ⌜ i < 16384 ⌝ }
-    ensures { λ r. ⌜ Puts 55 (now (out .entry)) at (lineText i hw1 hw2 ++ 10 ∷ []) (now (out .exit)) r ⌝ }
+    ensures { λ r. ⌜ Placed 55 (now (out .entry)) at (lineText i hw1 hw2 ++ 10 ∷ []) (now (out .exit)) r ⌝ }
 {
     let p = text::put_five(out, at, i);
     let q = text::put_halfword(out, p, hw1);
     let r = text::put_halfword(out, q, hw2);
     let s = text::put(out, r, b' ');
-    let t = put_reading(out, s, decode::read(hw1, hw2, 0), names);
+    let t = put_reading(out, s, hw1, hw2, names);
     text::put(out, t, 10)
 }
 
@@ -61,7 +61,7 @@ fn put_lines(out: &mut [u8], at: usize, input: &[u8], names: &[u8; 4152]) -> usi
     requires { ⌜ NameTable (now names) ⌝ }
     requires { ⌜ at < 2 ^ 52 ⌝ }
     requires { ⌜ length (now input) ≤ 65536 ⌝ }
-    ensures { λ r. ⌜ Puts (55 * (length (now (input .entry)) / 4)) (now (out .entry)) at (text (map (pairLine (now (input .entry))) (below (length (now (input .entry)) / 4)))) (now (out .exit)) r ⌝ }
+    ensures { λ r. ⌜ Placed (55 * (length (now (input .entry)) / 4)) (now (out .entry)) at (endedLines (map (pairLine (now (input .entry))) (numbersBelow (length (now (input .entry)) / 4)))) (now (out .exit)) r ⌝ }
 {
     let pairs = input.len() / 4;
     let mut p = at;
@@ -101,7 +101,7 @@ pub fn most(n: usize) -> usize
 // The whole listing, from the start of out, as far as out reaches; the answer is its length.
 pub fn put_listing(out: &mut [u8], input: &[u8], names: &[u8; 4152]) -> usize
     requires { ⌜ NameTable (now names) ⌝ }
-    ensures { λ r. ⌜ Puts (most (length (now (input .entry)))) (now (out .entry)) 0 (listing (now (input .entry))) (now (out .exit)) r ⌝ }
+    ensures { λ r. ⌜ Placed (most (length (now (input .entry)))) (now (out .entry)) 0 (listing (now (input .entry))) (now (out .exit)) r ⌝ }
 {
     if is_listable(input.len()) {
         let p = text::put_text(out, 0, b"pairs ");

@@ -1,7 +1,9 @@
 // Lists the replayed pairs, which standard input has as bytes, and inputs at the bounds of what is listed.
 // tools/relist makes standard input and what is due, from the original's answers.
 ghost use mathlib.Core.Path.{_≡_};
+ghost use Prim.Native.Nat.{_≤_};
 ghost use lib.ListN.{length};
+ghost use Rattle.listing.specs.Answers.{enough};
 use libc::STDIN_FILENO;
 use libc::STDOUT_FILENO;
 use listing::ENOUGH;
@@ -23,7 +25,7 @@ fn input_buffer() -> [u8; 65540]
 }
 
 fn output_buffer() -> [u8; ENOUGH]
-    ensures { λ r. ⌜ 901132 ≡ length r ⌝ }
+    ensures { λ r. ⌜ enough ≡ length r ⌝ }
 {
     [0; ENOUGH]
 }
@@ -41,12 +43,26 @@ fn repeated(pairs: &[u8; 12160]) -> [u8; 65540]
     bytes
 }
 
-// The listing itself.
-fn show(input: &[u8], out: &mut [u8]) {
-    match listing::list(input, out) {
-        Listed::Length(k) => put(&out[..k]),
-        Listed::TooShort => put(b"too short\n"),
+// Lists the first n bytes; the answer is the listing's length, or 0 where out is too short for it.
+fn listed(bytes: &[u8], n: usize, out: &mut [u8]) -> usize
+    requires { ⌜ n ≤ length (now bytes) ⌝ }
+    ensures { λ r. ⌜ r ≤ length (now (out .exit)) ⌝ }
+{
+    match listing::list(&bytes[..n], out) {
+        Listed::Length(k) => k,
+        Listed::TooShort => {
+            put(b"too short\n");
+            0
+        }
     }
+}
+
+// The listing of the first n bytes itself.
+fn show(bytes: &[u8], n: usize, out: &mut [u8])
+    requires { ⌜ n ≤ length (now bytes) ⌝ }
+{
+    let k = listed(bytes, n, out);
+    put(&out[..k]);
 }
 
 fn mixed(sum: u64, b: u8) -> u64 {
@@ -73,11 +89,11 @@ fn weigh(text: &[u8]) {
 }
 
 // What a long listing weighs.
-fn show_weight(input: &[u8], out: &mut [u8]) {
-    match listing::list(input, out) {
-        Listed::Length(k) => weigh(&out[..k]),
-        Listed::TooShort => put(b"too short\n"),
-    }
+fn show_weight(bytes: &[u8], n: usize, out: &mut [u8])
+    requires { ⌜ n ≤ length (now bytes) ⌝ }
+{
+    let k = listed(bytes, n, out);
+    weigh(&out[..k]);
 }
 
 // A listing in a buffer that may be too short for it, and what the buffer then holds.
@@ -105,18 +121,25 @@ fn show_buffers(three: &[u8]) {
     show_buffer(three, &mut short);
 }
 
+// Lengths at the bounds of what is listed.
+fn show_bounds(bytes: &[u8], out: &mut [u8])
+    requires { ⌜ 65540 ≤ length (now bytes) ⌝ }
+{
+    show(bytes, 0, out);
+    show(bytes, 1, out);
+    show(bytes, 2, out);
+    show(bytes, 3, out);
+    show(bytes, 5, out);
+    show_weight(bytes, 65536, out);
+    show_weight(bytes, 65540, out);
+    show_buffers(&bytes[..3]);
+}
+
 fn main() {
     let mut pairs = [0u8; 12160];
     io::read_full(STDIN_FILENO, &mut pairs);
     let bytes = repeated(&pairs);
     let mut out = output_buffer();
-    show(&pairs, &mut out);
-    show(&bytes[..0], &mut out);
-    show(&bytes[..1], &mut out);
-    show(&bytes[..2], &mut out);
-    show(&bytes[..3], &mut out);
-    show(&bytes[..5], &mut out);
-    show_weight(&bytes[..65536], &mut out);
-    show_weight(&bytes, &mut out);
-    show_buffers(&bytes[..3]);
+    show(&pairs, 12160, &mut out);
+    show_bounds(&bytes, &mut out);
 }

@@ -1,6 +1,9 @@
 // loading SHEET START: runs a sum sheet on a start file, and writes the pair count and rows 0 to 13, or the refusal.
+ghost use mathlib.Core.Path.{_≡_};
+ghost use Prim.Native.Nat.{_+_, _*_, _^_, _<_, _≤_};
 ghost use lib.ListN.{length};
-ghost use Prim.Native.Nat.{_+_, _<_, _≤_};
+ghost use Rattle.steps.specs.Steps.{wordAt};
+ghost use Rattle.loading.specs.Start.{StartFile, halfAt};
 use insn::Refusal;
 use libc::STDOUT_FILENO;
 use machine::Outcome;
@@ -39,23 +42,33 @@ fn read_file(k: usize, buf: &mut [u8]) -> usize
 }
 
 fn number(byte: u8) -> u64
-    ensures { λ r. ⌜ r < 256 ⌝ }
+    ensures { λ r. ⌜ (r ≡ byte) × (r < 256) ⌝ }
 {
     byte as u64
 }
 
-// Doubleword k of a start file, the lowest byte first.
-fn word(start: &[u8; 257], k: usize) -> u64
-    requires { ⌜ k < 32 ⌝ }
+// Four bytes of a start file, the lowest first.
+fn half(start: &[u8; 257], i: usize) -> u64
+    requires { ⌜ i < 253 ⌝ }
+    ensures { λ r. ⌜ (r ≡ halfAt (now (start .entry)) i) × (r < 2 ^ 32) ⌝ }
 {
-    let mut v: u64 = 0;
-    for j in 0..8usize {
-        v = v % 0x100_0000_0000_0000 * 0x100 + number(start[8 * k + 7 - j]);
-    }
-    v
+    number(start[i])
+        + 0x100 * number(start[i + 1])
+        + 0x1_0000 * number(start[i + 2])
+        + 0x100_0000 * number(start[i + 3])
 }
 
-fn file_of(start: &[u8; 257]) -> [u64; 32] {
+// Doubleword k of a start file.
+fn word(start: &[u8; 257], k: usize) -> u64
+    requires { ⌜ k < 32 ⌝ }
+    ensures { λ r. ⌜ r ≡ wordAt (now (start .entry)) (8 * k) ⌝ }
+{
+    half(start, 8 * k) + 0x1_0000_0000 * half(start, 8 * k + 4)
+}
+
+fn file_of(start: &[u8; 257]) -> [u64; 32]
+    ensures { λ r. ⌜ StartFile (now (start .entry)) r ⌝ }
+{
     let mut file = [0u64; 32];
     for k in 0..32usize {
         file[k] = word(start, k);

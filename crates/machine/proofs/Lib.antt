@@ -1,7 +1,8 @@
-pub mod Actions
+pub mod AnyRuns
+pub mod Constants
 pub mod Copies
+pub mod Held
 pub mod Promises
-pub mod Rows
+pub mod Readings
 pub mod Runs
 pub mod Steps
-pub mod Stretches

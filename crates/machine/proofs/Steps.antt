@@ -1,21 +1,20 @@
 -- What an operation does to a file.
 -- Assumes nothing.
-use mathlib.Core.Path.{_≡_, refl, sym, _∙_}
+use mathlib.Core.Path.{_≡_, refl, sym, ap, _∙_}
 use mathlib.Core.Bool.{Bool, true, false}
 use mathlib.Core.Logic.{_≢_}
 use mathlib.Core.List.{[], _∷_}
-use Prim.Native.Nat.{ℕ, zero, suc, _+_, _*_, _^_, _<_}
+use Prim.Native.Nat.{ℕ, zero, suc, _+_, _*_, _/_, _%_, _^_, _<_}
 use native.Mathlib.Omega.{arith}
 use lib.ListN.{length, getD, set, length-set}
-use lib.Seq.{getD-set-same, getD-set-other}
-use Rattle.laws.specs.Choice.{choose}
-use Rattle.machine.specs.declared.operations.Operation.{Operation}
-use Rattle.machine.specs.declared.meanings.Registers.{Registers}
-use Rattle.machine.specs.File.{File, Good, readD, writeD, readQ, writeQ}
-use Rattle.machine.specs.Meaning.{registers}
-use Rattle.machine.specs.Operations.{valueOf, Sized}
-use Rattle.machine.specs.Step.{wordOf, effect}
-use Rattle.machine.proofs.Rows.{Row, low-half, high-half, value-row, value-lt}
+use lib.Seq.{getD-set-other}
+use Rattle.operations.specs.declared.Operation.{Operation}
+use Rattle.meanings.specs.declared.Registers.{Registers}
+use Rattle.machine.specs.File.{File, Good, readD, readR, writeR}
+use Rattle.meanings.specs.Meaning.{registers}
+use Rattle.operations.specs.Operations.{resultOf, Sized}
+use Rattle.machine.specs.Step.{effect}
+use Rattle.operations.proofs.Halves.{Halves, low-half, high-half, quad, result-halves, result-lt}
 
 -- a store keeps the file good
 pub set-good : (file : File) (k v : ℕ) → Good file → v < 2 ^ 64 → Good (set file k v)
@@ -28,62 +27,87 @@ set-good file k v g h = record { size = length-set file k v ∙ g .size; small =
     stored (x ∷ file) (suc k) s zero = s zero
     stored (x ∷ file) (suc k) s (suc j) = stored file k (λ i. s (suc i)) j
 
+-- a write to a register
+module _ (file : File) where
+  write-size : (q : Bool) (k v : ℕ) → length (writeR q file k v) ≡ length file
+  write-size true k v = length-set (set file k (v % 2 ^ 64)) (k + 1) (v / 2 ^ 64) ∙ length-set file k (v % 2 ^ 64)
+  write-size false k v = length-set file k v
+
+  write-other : (q : Bool) (d v k : ℕ) → k ≢ d → (q ≡ true → k ≢ d + 1) → readD (writeR q file d v) k ≡ readD file k
+  write-other true d v k h u = getD-set-other (set file d (v % 2 ^ 64)) (d + 1) k (v / 2 ^ 64) 0 (u refl) ∙ getD-set-other file d k (v % 2 ^ 64) 0 h
+  write-other false d v k h u = getD-set-other file d k v 0 h
+
 module _ (op : Operation) (file : File) where
-  word-lt : (d n m : ℕ) → Sized op → Good file → wordOf op file d n m < 2 ^ 64
-  word-lt d n m s g = value-lt op (getD file d 0) (getD file n 0) (getD file m 0) s (g .small d) (g .small n) (g .small m)
+  -- what an operation makes of doublewords
+  abbrev pub wordOf : ℕ → ℕ → ℕ → ℕ
+  wordOf d n m = resultOf 64 op (readD file d) (readD file n) (readD file m)
 
-  -- the file with the target's lower doubleword written, and with both
-  abbrev lower : Registers → File
-  lower r = writeD file (r .d) (wordOf op file (r .d) (r .n) (r .m))
-
-  abbrev upper : Registers → File
-  upper r = writeD (lower r) (r .d + 1) (wordOf op file (r .d + 1) (r .n + 1) (r .m + 1))
-
-  -- an operation keeps it good too
-  pub effect-good : (r : Registers) → Sized op → Good file → Good (effect op r file)
+  -- an operation keeps the file's size, and changes only the target's doublewords
+  pub effect-size : (r : Registers) → length (effect op r file) ≡ length file
   unfolding effect
-  effect-good r s g = go (r .quad)
-    where
-      low : Good (lower r)
-      low = set-good file (r .d) (wordOf op file (r .d) (r .n) (r .m)) g (word-lt (r .d) (r .n) (r .m) s g)
+  effect-size r = write-size file (r .quad) (r .d) _
 
-      go : (q : Bool) → Good (choose q (upper r) (lower r))
-      go true = set-good (lower r) (r .d + 1) (wordOf op file (r .d + 1) (r .n + 1) (r .m + 1)) low (word-lt (r .d + 1) (r .n + 1) (r .m + 1) s g)
-      go false = low
-
-  -- only the target's doublewords change
   pub effect-other : (r : Registers) (k : ℕ) → k ≢ r .d → (r .quad ≡ true → k ≢ r .d + 1) → readD (effect op r file) k ≡ readD file k
   unfolding effect
-  effect-other r k h u = go (r .quad) u
+  effect-other r k h u = write-other file (r .quad) (r .d) _ k h u
+
+  -- on doublewords it is one store
+  pub double-effect : (d n m : ℕ) → effect op (registers false d n m) file ≡ set file d (wordOf d n m)
+  unfolding effect
+  double-effect d n m = refl
+
+  -- on quadwords it is one write of 128 bits
+  pub quad-effect : (d n m : ℕ)
+      → effect op (registers true d n m) file ≡ writeR true file d (resultOf 128 op (readR true file d) (readR true file n) (readR true file m))
+  unfolding effect
+  quad-effect d n m = refl
+
+  word-lt : (d n m : ℕ) → Sized op → Good file → wordOf d n m < 2 ^ 64
+  word-lt d n m s g = result-lt op (readD file d) (readD file n) (readD file m) s (g .small d) (g .small n) (g .small m)
+
+  -- which is a store to each doubleword, both read before either is written
+  pub quad-words : (d n m : ℕ) → Sized op → Good file
+      → effect op (registers true d n m) file ≡ set (set file d (wordOf d n m)) (d + 1) (wordOf (d + 1) (n + 1) (m + 1))
+  quad-words d n m s g =
+      let read : (k : ℕ) → Halves (readR true file k) (readD file k) (readD file (k + 1)) = λ k. quad (g .small k) (g .small (k + 1)) in
+      let whole = result-halves op s (read d) (read n) (read m) in
+      rw (quad-effect d n m, low-half whole, high-half whole)
+
+  -- so that these stores are its effect
+  module _ (r : Registers) (low : ℕ) (l : low ≡ wordOf (r .d) (r .n) (r .m)) where
+    pub double-stored : r .quad ≡ false → set file (r .d) low ≡ effect op r file
+    unfolding effect
+    double-stored q = rw (q, l)
+
+    pub quad-stored : (high : ℕ) → high ≡ wordOf (r .d + 1) (r .n + 1) (r .m + 1) → r .quad ≡ true → Sized op → Good file
+        → set (set file (r .d) low) (r .d + 1) high ≡ effect op r file
+    quad-stored high h q s g = rw (l, h) (sym (ap (λ (q : Bool). effect op (registers q (r .d) (r .n) (r .m)) file) q ∙ quad-words (r .d) (r .n) (r .m) s g))
+
+  -- an operation keeps the file good too
+  pub effect-good : (r : Registers) → Sized op → Good file → Good (effect op r file)
+  effect-good r s g = go (r .quad)
     where
-      low : readD (lower r) k ≡ readD file k
-      low = getD-set-other file (r .d) k (wordOf op file (r .d) (r .n) (r .m)) 0 h
+      low : Good (set file (r .d) (wordOf (r .d) (r .n) (r .m)))
+      low = set-good file (r .d) (wordOf (r .d) (r .n) (r .m)) g (word-lt (r .d) (r .n) (r .m) s g)
 
-      go : (q : Bool) → (q ≡ true → k ≢ r .d + 1) → readD (choose q (upper r) (lower r)) k ≡ readD file k
-      go true u = getD-set-other (lower r) (r .d + 1) k (wordOf op file (r .d + 1) (r .n + 1) (r .m + 1)) 0 (u refl) ∙ low
-      go false u = low
+      go : (q : Bool) → Good (effect op (registers q (r .d) (r .n) (r .m)) file)
+      go true =
+          rw (quad-words (r .d) (r .n) (r .m) s g)
+          (set-good (set file (r .d) (wordOf (r .d) (r .n) (r .m))) (r .d + 1) (wordOf (r .d + 1) (r .n + 1) (r .m + 1)) low (word-lt (r .d + 1) (r .n + 1) (r .m + 1) s g))
+      go false = rw (double-effect (r .d) (r .n) (r .m)) low
 
-  -- an operation on quadwords is one operation on 128 bits
-  module _ (t a b : ℕ) (s : Sized op) (g : Good file) where
-    read : (k : ℕ) → Row (readQ file k) (readD file (2 * k)) (readD file (2 * k + 1))
-    read k = record { whole = refl; low = g .small (2 * k); high = g .small (2 * k + 1) }
-
-    whole : Row (valueOf 128 op (readQ file t) (readQ file a) (readQ file b)) (wordOf op file (2 * t) (2 * a) (2 * b)) (wordOf op file (2 * t + 1) (2 * a + 1) (2 * b + 1))
-    whole = value-row op s (read t) (read a) (read b)
-
-    pub quad-whole : effect op (registers true (2 * t) (2 * a) (2 * b)) file ≡ writeQ file t (valueOf 128 op (readQ file t) (readQ file a) (readQ file b))
-    unfolding effect
-    quad-whole = rw (low-half whole, high-half whole)
-
-    pub quad-target : t < 16 → readQ (effect op (registers true (2 * t) (2 * a) (2 * b)) file) t ≡ valueOf 128 op (readQ file t) (readQ file a) (readQ file b)
-    unfolding effect
-    quad-target h =
-        let z = g .size in
-        let r = registers true (2 * t) (2 * a) (2 * b) in
-        let l : 2 * t + 1 < length (lower r) = rw length-set (omega arith) in
-        rw (
-          getD-set-other (lower r) (2 * t + 1) (2 * t) (wordOf op file (2 * t + 1) (2 * a + 1) (2 * b + 1)) 0 (λ e. omega arith),
-          getD-set-same file (2 * t) (wordOf op file (2 * t) (2 * a) (2 * b)) 0 (omega arith),
-          getD-set-same (lower r) (2 * t + 1) (wordOf op file (2 * t + 1) (2 * a + 1) (2 * b + 1)) 0 l,
-        )
-        (sym (whole .whole))
+-- on quadwords it is the effect on their low doublewords and then on their high ones
+pub quad-halves : (op : Operation) (t a b : ℕ) (file : File) → Sized op → Good file
+    → effect op (registers true (2 * t) (2 * a) (2 * b)) file
+    ≡ effect op (registers false (2 * t + 1) (2 * a + 1) (2 * b + 1)) (effect op (registers false (2 * t) (2 * a) (2 * b)) file)
+quad-halves op t a b file s g =
+    let v = wordOf op file (2 * t) (2 * a) (2 * b) in
+    let kept : (k : ℕ) → readD (set file (2 * t) v) (2 * k + 1) ≡ readD file (2 * k + 1) = λ k. getD-set-other file (2 * t) (2 * k + 1) v 0 (λ e. let z : ⊥ = omega arith in z) in
+    rw (
+      quad-words op file (2 * t) (2 * a) (2 * b) s g,
+      double-effect op file (2 * t) (2 * a) (2 * b),
+      double-effect op (set file (2 * t) v) (2 * t + 1) (2 * a + 1) (2 * b + 1),
+      kept t,
+      kept a,
+      kept b,
+    )

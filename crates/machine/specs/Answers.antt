@@ -2,19 +2,12 @@
 -- Assumes nothing.
 use Rattle.laws.specs.Answer.{Answer, accepted, refused}
 use Rattle.insn.specs.Refusals.{number}
-use Rattle.machine.specs.declared.meanings.Meaning.{Meaning}
-use Rattle.machine.specs.declared.meanings.Meaning.the-variants.{Does, Refused}
 use Rattle.machine.specs.declared.Outcome.{Outcome}
 use Rattle.machine.specs.declared.Outcome.the-variants.{Done, Refused as Stopped}
 use Rattle.machine.specs.declared.Stepped.{Stepped}
 use Rattle.machine.specs.declared.run.Ran.{Ran}
 use Rattle.machine.specs.File.{File}
-use Rattle.machine.specs.Meaning.{Act, act}
 use Rattle.machine.specs.Run.{Ending, done, stopped, Run}
-
-abbrev pub meaningAnswer : Meaning → Answer Act
-meaningAnswer (Does op r) = accepted (act op r)
-meaningAnswer (Refused f) = refused (number f)
 
 abbrev pub outcomeAnswer : Outcome → File → Answer File
 outcomeAnswer Done file = accepted file

@@ -1,33 +1,20 @@
 -- One machine step: the file after an operation, and after a record.
 -- Assumes nothing.
-use mathlib.Core.Bool.{true}
-use mathlib.Core.Path.{_≡_}
-use Prim.Native.Nat.{ℕ, _+_, _<_}
+use Prim.Native.Nat.{ℕ}
 use Rattle.laws.specs.Answer.{Answer, accepted, refused}
-use Rattle.laws.specs.Choice.{choose}
 use Rattle.insn.specs.declared.Insn.{Insn}
 use Rattle.decode.specs.Reading.{reading}
-use Rattle.machine.specs.declared.operations.Operation.{Operation}
-use Rattle.machine.specs.declared.meanings.Registers.{Registers}
-use Rattle.machine.specs.File.{File, readD, writeD}
-use Rattle.machine.specs.Meaning.{Act, act, meaningOf}
-use Rattle.machine.specs.Operations.{valueOf}
+use Rattle.operations.specs.declared.Operation.{Operation}
+use Rattle.meanings.specs.declared.Registers.{Registers}
+use Rattle.machine.specs.File.{File, sizeOf, readR, writeR}
+use Rattle.meanings.specs.Meaning.{Act, act, meaningOf}
+use Rattle.operations.specs.Operations.{resultOf}
 
--- registers that the file has
-pub record Within (r : Registers) : Type 0 where
-  pub lower : (r .d < 32) × (r .n < 32) × (r .m < 32)
-  pub upper : r .quad ≡ true → (r .d + 1 < 32) × (r .n + 1 < 32) × (r .m + 1 < 32)
-
--- what an operation makes of Dd, Dn and Dm
-abbrev pub wordOf : Operation → File → ℕ → ℕ → ℕ → ℕ
-wordOf op file d n m = valueOf 64 op (readD file d) (readD file n) (readD file m)
-
--- the file after an operation: both halves of a quadword are read before either is written
+-- the file after an operation on whole registers: the old target and the sources are read before the target is written
 unfoldable pub effect : Operation → Registers → File → File
 effect op r file =
-    choose (r .quad)
-    (writeD (writeD file (r .d) (wordOf op file (r .d) (r .n) (r .m))) (r .d + 1) (wordOf op file (r .d + 1) (r .n + 1) (r .m + 1)))
-    (writeD file (r .d) (wordOf op file (r .d) (r .n) (r .m)))
+    writeR (r .quad) file (r .d)
+    (resultOf (sizeOf (r .quad)) op (readR (r .quad) file (r .d)) (readR (r .quad) file (r .n)) (readR (r .quad) file (r .m)))
 
 unfoldable pub stepBy : Answer Act → File → Answer File
 stepBy (accepted (act op r)) file = accepted (effect op r file)

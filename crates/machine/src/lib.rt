@@ -1,7 +1,8 @@
 // The register machine: one instruction on a file of 32 doublewords, and runs of pairs.
 ghost use mathlib.Core.Path.{_≡_};
 ghost use Rattle.machine.specs.Answers.{steppedAnswer};
-ghost use Rattle.machine.specs.Step.{Within, effect, stepInsn, stepPair, fileAfter};
+ghost use Rattle.machine.specs.Step.{effect, stepInsn, stepPair, fileAfter};
+ghost use Rattle.meanings.specs.Own.{Within};
 use decode::Reading;
 use insn::Insn;
 use insn::Refusal;
@@ -9,9 +10,6 @@ use meanings::Meaning;
 use meanings::Registers;
 use operations::Operation;
 
-pub mod forms;
-pub mod meanings;
-pub mod operations;
 pub mod run;
 
 // How a step ended.
@@ -26,7 +24,7 @@ pub struct Stepped {
     pub file: [u64; 32],
 }
 
-// The file after an operation. The sources are read from the file before it.
+// The file after an operation, by doublewords: a quadword is two. The sources are read from the file before it.
 fn perform(file: [u64; 32], op: Operation, r: Registers) -> [u64; 32]
     requires { ⌜ Within r ⌝ }
     ensures { λ after. ⌜ after ≡ effect op r file ⌝ }

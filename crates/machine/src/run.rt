@@ -4,7 +4,7 @@ ghost use Prim.Native.Nat.{_*_, _/_, _%_, _≤_};
 ghost use lib.ListN.{length, drop};
 ghost use Rattle.laws.specs.Answer.{accepted};
 ghost use Rattle.machine.specs.Answers.{endingOf, ranOf};
-ghost use Rattle.machine.specs.Run.{atOnce, after, runPairs, runOf, steps};
+ghost use Rattle.machine.specs.Run.{atOnce, after, runPairs, runOf, machineSteps};
 use crate::Outcome;
 use crate::step;
 use insn::Refusal;
@@ -87,7 +87,7 @@ fn go(code: &[u16], start: usize, file: [u64; 32], budget: u64) -> Halt
 // The run from a start counted in pairs, while the budget of steps lasts. It leaves the file at the last executed pair.
 pub fn run(code: &[u16], start: u64, file: &mut [u64], budget: u64) -> Ran
     ensures answer { λ r. ⌜ ranOf r (now (file .exit)) ≡ runOf (now (code .entry)) start (now (file .entry)) budget ⌝ }
-    ensures counted { λ r. ⌜ steps (r .executed) (drop (2 * start) (now (code .entry))) (now (file .entry)) ≡ accepted (now (file .exit)) ⌝ }
+    ensures counted { λ r. ⌜ machineSteps (r .executed) (drop (2 * start) (now (code .entry))) (now (file .entry)) ≡ accepted (now (file .exit)) ⌝ }
 {
     if code.len() % 2 != 0 {
         return Ran {

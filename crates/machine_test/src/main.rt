@@ -10,11 +10,16 @@ use replay::field;
 use replay::put;
 use replay::put_count;
 use replay::same_file;
-use tables::names;
 
-fn begins(line: &[u8; 100], mnemonic: u16) -> bool {
+// The byte at place j of the name of mnemonic m; a space where there is none.
+fn byte(names: &[u8; 4152], m: u16, j: u8) -> u8 {
+    let at = m as usize * 12 + j as usize;
+    if j < 12 && at < 4152 { names[at] } else { b' ' }
+}
+
+fn begins(line: &[u8; 100], names: &[u8; 4152], mnemonic: u16) -> bool {
     for j in 0..12u8 {
-        if line[j as usize] != names::byte(mnemonic, j) {
+        if line[j as usize] != byte(names, mnemonic, j) {
             return false;
         }
     }
@@ -23,8 +28,9 @@ fn begins(line: &[u8; 100], mnemonic: u16) -> bool {
 
 // The mnemonic with which the line begins; 346, which is none, where there is none.
 fn mnemonic_of(line: &[u8; 100]) -> u16 {
+    let names = names::table();
     for m in 0..346u16 {
-        if begins(line, m) {
+        if begins(line, &names, m) {
             return m;
         }
     }
@@ -63,7 +69,7 @@ fn record(mnemonic: u16, shape: u8, v: u64, quad: bool) -> Insn {
     let a = register(quad, 0);
     let b = register(quad, 1);
     let c = register(quad, 2);
-    let number = Operand::Imm(immediates::signed::signed_of(v));
+    let number = Operand::Imm(insn::signed::signed_of(v));
     match shape {
         b'c' => insn_of(mnemonic, 2, a, b, Operand::Absent),
         b's' => insn_of(mnemonic, 3, a, b, number),

@@ -1,7 +1,6 @@
 // Prints how many mnemonics there are, the longest name's length, every number and name, and the float of every immediate.
 use insn::Operand;
 use libc::STDOUT_FILENO;
-use tables::names;
 
 fn put(text: &[u8]) {
     io::write_all(STDOUT_FILENO, text);
@@ -11,11 +10,17 @@ fn put_number(n: u64) {
     io::print_decimal(STDOUT_FILENO, n);
 }
 
+// The byte at place j of the name of mnemonic m; a space where there is none.
+fn byte(names: &[u8; 4152], m: u16, j: u8) -> u8 {
+    let at = m as usize * 12 + j as usize;
+    if j < 12 && at < 4152 { names[at] } else { b' ' }
+}
+
 // The bytes of a name before its first space.
-fn name_length(m: u16) -> u8 {
+fn name_length(names: &[u8; 4152], m: u16) -> u8 {
     let mut j: u8 = 0;
     while j < 255 {
-        if names::byte(m, j) == b' ' {
+        if byte(names, m, j) == b' ' {
             return j;
         }
         j += 1;
@@ -24,10 +29,10 @@ fn name_length(m: u16) -> u8 {
 }
 
 // How many numbers from 0 on have a name.
-fn count_names() -> u16 {
+fn count_names(names: &[u8; 4152]) -> u16 {
     let mut m: u16 = 0;
     while m < 65535 {
-        if name_length(m) == 0 {
+        if name_length(names, m) == 0 {
             return m;
         }
         m += 1;
@@ -35,10 +40,10 @@ fn count_names() -> u16 {
     m
 }
 
-fn longest_name(count: u16) -> u8 {
+fn longest_name(names: &[u8; 4152], count: u16) -> u8 {
     let mut longest: u8 = 0;
     for m in 0..count {
-        let n = name_length(m);
+        let n = name_length(names, m);
         if longest < n {
             longest = n;
         }
@@ -46,18 +51,18 @@ fn longest_name(count: u16) -> u8 {
     longest
 }
 
-fn put_name(m: u16) {
-    for j in 0..name_length(m) {
-        let byte = [names::byte(m, j)];
-        put(&byte);
+fn put_name(names: &[u8; 4152], m: u16) {
+    for j in 0..name_length(names, m) {
+        let text = [byte(names, m, j)];
+        put(&text);
     }
 }
 
-fn put_names(count: u16) {
+fn put_names(names: &[u8; 4152], count: u16) {
     for m in 0..count {
         put_number(m as u64);
         put(b" ");
-        put_name(m);
+        put_name(names, m);
         put(b"\n");
     }
 }
@@ -97,13 +102,14 @@ fn put_immediate(imm8: u8) {
 }
 
 fn main() {
-    let count = count_names();
+    let names = names::table();
+    let count = count_names(&names);
     put(b"mnemonics ");
     put_number(count as u64);
     put(b"\nlongest ");
-    put_number(longest_name(count) as u64);
+    put_number(longest_name(&names, count) as u64);
     put(b"\n");
-    put_names(count);
+    put_names(&names, count);
     for imm8 in 0..256u16 {
         put_immediate((imm8 % 256) as u8);
     }

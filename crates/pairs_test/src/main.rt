@@ -87,19 +87,31 @@ fn replayed() -> Tally {
     t
 }
 
+// How many readings were answered each way.
+fn put_read(n: [u64; 10]) {
+    put_count(b"read ", n[0]);
+    put_refused(1, n[1]);
+    put_refused(2, n[2]);
+    put_refused(3, n[3]);
+    put_refused(4, n[4]);
+    put_refused(5, n[5]);
+    put_refused(6, n[6]);
+}
+
+// How many writings were answered each way.
+fn put_written(n: [u64; 10]) {
+    put_count(b"written ", n[0]);
+    put_refused(5, n[5]);
+    put_refused(7, n[7]);
+    put_refused(8, n[8]);
+    put_refused(9, n[9]);
+}
+
 fn main() {
     let t = replayed();
-    put_count(b"read ", t.read[0]);
-    put_refused(1, t.read[1]);
-    put_refused(2, t.read[2]);
-    put_refused(3, t.read[3]);
-    put_refused(4, t.read[4]);
-    put_refused(5, t.read[5]);
-    put_refused(6, t.read[6]);
-    put_count(b"written ", t.written[0]);
-    put_refused(5, t.written[5]);
-    put_refused(7, t.written[7]);
-    put_refused(8, t.written[8]);
-    put_refused(9, t.written[9]);
+    let read = t.read;
+    let written = t.written;
+    put_read(read);
+    put_written(written);
     put_count(b"not as the list says ", t.wrong);
 }

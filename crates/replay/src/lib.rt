@@ -1,5 +1,7 @@
 // Lines of a replayed list, and the counts that a test prints.
+ghost use mathlib.Core.Path.{_≡_};
 ghost use Prim.Native.Nat.{_<_};
+ghost use Rattle.replay.specs.Lines.{numberAt, FileAt, sameNumbers, recordIn, digitValue};
 use libc::STDOUT_FILENO;
 
 pub fn put(text: &[u8]) {
@@ -20,7 +22,7 @@ pub fn put_refused(k: u64, n: u64) {
 
 // The value of a hexadecimal digit.
 pub fn digit(c: u8) -> u64
-    ensures { λ r. ⌜ r < 16 ⌝ }
+    ensures { λ r. ⌜ (r ≡ digitValue c) × (r < 16) ⌝ }
 {
     if c < b'a' {
         return (c % 16) as u64;
@@ -29,20 +31,25 @@ pub fn digit(c: u8) -> u64
 }
 
 // The number of n hexadecimal digits from a place of the line on; places past its end add nothing.
-pub fn field(line: &[u8], at: usize, n: usize) -> u64 {
+pub fn field(line: &[u8], at: usize, n: usize) -> u64
+    ensures { λ r. ⌜ r ≡ numberAt (now (line .entry)) at n ⌝ }
+{
     let mut value: u64 = 0;
-    let mut i: usize = 0;
+    let mut i: usize = at;
     while i < line.len() {
-        if at <= i && i - at < n {
-            value = value % 0x1000_0000_0000_0000 * 16 + digit(line[i]);
+        if n <= i - at {
+            return value;
         }
+        value = value % 0x1000_0000_0000_0000 * 16 + digit(line[i]);
         i += 1;
     }
     value
 }
 
 // The 32 doublewords of 16 digits each from a place of the line on.
-pub fn file_at(line: &[u8], at: u16) -> [u64; 32] {
+pub fn file_at(line: &[u8], at: u16) -> [u64; 32]
+    ensures { λ r. ⌜ FileAt (now (line .entry)) at r ⌝ }
+{
     let mut file = [0u64; 32];
     let mut i: usize = 0;
     while i < 32 {
@@ -52,7 +59,9 @@ pub fn file_at(line: &[u8], at: u16) -> [u64; 32] {
     file
 }
 
-pub fn same_file(a: [u64; 32], b: [u64; 32]) -> bool {
+pub fn same_file(a: [u64; 32], b: [u64; 32]) -> bool
+    ensures { λ r. ⌜ r ≡ sameNumbers a b ⌝ }
+{
     let mut i: usize = 0;
     while i < 32 {
         if a[i] != b[i] {
@@ -64,7 +73,9 @@ pub fn same_file(a: [u64; 32], b: [u64; 32]) -> bool {
 }
 
 // The record in a line of a list of pairs, as the words of the C boundary.
-pub fn record(line: &[u8]) -> [u64; 10] {
+pub fn record(line: &[u8]) -> [u64; 10]
+    ensures { λ r. ⌜ r ≡ recordIn (now (line .entry)) ⌝ }
+{
     [
         field(line, 24, 4),
         field(line, 29, 1),

@@ -1,53 +1,30 @@
 -- A record that is written does, as a pair, what it does as a record: demand 2 over meanings.
 -- Assumes nothing.
 use mathlib.Core.Path.{_≡_, refl, sym, ap, _∙_}
-use mathlib.Core.Bool.{Bool, Bool·beq, true, false}
+use mathlib.Core.Bool.{Bool, true, false}
 use Prim.Native.Nat.{ℕ}
-use lib.Dec.{eqb}
 use lib.Text.{eqt}
-use borrow.Author.Tests.{eqb-true}
-use Rattle.laws.specs.Answer.{Answer, accepted, refused}
-use Rattle.laws.proofs.Never.{wrong}
+use Rattle.laws.specs.Answer.{Answer, accepted}
 use Rattle.insn.specs.declared.Insn.{Insn}
 use Rattle.insn.specs.declared.Mark.{Mark}
 use Rattle.insn.specs.declared.Mark.the-variants.{T1}
 use Rattle.insn.specs.declared.Operand.{Operand}
 use Rattle.insn.specs.declared.Operand.the-variants.{Absent}
 use Rattle.insn.specs.Record.{placeAt}
-use Rattle.tables.specs.Names.{names, nameOf, numberOf}
-use Rattle.fields.specs.Registers.{Bits, bits, vecBits}
-use Rattle.fields.proofs.Promises.{vecOfBits}
-use Rattle.decode.specs.Operands.{both, insn}
+use Rattle.names.specs.Names.{names, nameOf, numberOf}
+use Rattle.decode.specs.Operands.{insn}
+use Rattle.laws.specs.Choice.{both}
 use Rattle.encode.specs.Forms.{pair}
-use Rattle.encode.specs.Spelling.{Spelling, Held, spelled, sameBits, sameRegister, movedName, renamed, canonical}
+use Rattle.trips.specs.Spelling.{Spelling, Held, spelled, sameRegister, movedName, renamed, canonical}
 use Rattle.encode.specs.Writing.{writing}
-use Rattle.encode.proofs.Canonical.{spelt, as-spelt, as-vmov}
-use Rattle.encode.proofs.Promises.{writtenThenRead}
-use Rattle.encode.proofs.Tests.{both-true, same-text}
+use Rattle.trips.proofs.Canonical.{spelt, as-spelt, as-vmov}
+use Rattle.trips.proofs.Promises.{writtenThenRead}
+use Rattle.trips.proofs.Registers.{same-register}
+use Rattle.laws.proofs.Tests.{both-true, same-text}
 use Rattle.machine.specs.File.{File}
-use Rattle.machine.specs.Meaning.{meaningOf}
+use Rattle.meanings.specs.Meaning.{meaningOf}
 use Rattle.machine.specs.Step.{stepInsn, stepRead, stepPair}
 use Rattle.machine.proofs.Promises.{copyAlias}
-
-alike : (p q : Bool) → Bool·beq p q ≡ true → p ≡ q
-alike true true e = refl
-alike true false e = wrong e
-alike false true e = wrong e
-alike false false e = refl
-
-same-register : (x y : Operand) → sameRegister x y ≡ true → y ≡ x
-same-register x y e = go (vecBits x) (vecBits y) refl refl e
-  where
-    go : (a b : Answer Bits) → vecBits x ≡ a → vecBits y ≡ b → sameBits a b ≡ true → y ≡ x
-    go (accepted (bits p m)) (accepted (bits q n)) ex ey h =
-        let t = both-true (Bool·beq p q) (eqb m n) h in
-        let length = alike p q (t .0) in
-        let number = eqb-true m n (t .1) in
-        let dx = vecOfBits p m x ex .0 in
-        let dy = vecOfBits q n y ey .0 in
-        cc
-    go (accepted (bits p m)) (refused n) ex ey h = wrong h
-    go (refused n) b ex ey h = wrong h
 
 vmov-name : nameOf (numberOf "vmov") ≡ "vmov"
 unfolding names nameOf numberOf
@@ -68,7 +45,7 @@ module _ (m : ℕ) (x y z : Operand) (plain : eqt (movedName (nameOf m)) "" ≡ 
       go true e =
           let p = both-true (eqt (nameOf m) "vorr") (sameRegister y z) e in
           let j : Insn = spelled (renamed "vmov" (spelt m 3 x y z)) mark 0 in
-          ap (stepOf mark file) (as-vmov m 3 x y z e)
+          ap (stepOf mark file) (as-vmov m 3 x y z refl e)
           ∙ sym (copyAlias (insn m T1 0 3 x y z) j file (same-text (nameOf m) "vorr" (p .0)) refl (same-register y z (p .1)) vmov-name refl refl refl)
       go false e = ap (stepOf mark file) (as-spelt m 3 x y z e (rw plain))
 

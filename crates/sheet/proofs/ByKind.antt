@@ -1,42 +1,43 @@
--- A step of each kind: its pairs are written, and do these operations.
+-- A step of each kind: its pairs do these operations.
 -- Assumes nothing.
 use mathlib.Core.Path.{_≡_, refl}
 use mathlib.Core.Bool.{Bool, true, false}
-use mathlib.Core.Logic.{_≢_}
 use mathlib.Core.List.{List, [], _∷_, _++_}
 use Prim.Native.Nat.{ℕ, _+_, _*_, _≤_, _<_}
 use native.Mathlib.Omega.{arith}
 use Prim.Native.String.{String}
 use lib.Dec.{eqb, lit<}
-use lib.ListN.{length, getD, length-append}
+use lib.ListN.{getD}
 use borrow.Author.Tests.{eqb-false}
 use Rattle.laws.specs.Choice.{choose}
 use Rattle.insn.specs.declared.Operand.{Operand}
 use Rattle.insn.specs.declared.Operand.the-variants.{Q}
+use Rattle.homes.specs.declared.Home.the-variants.{Same3}
 use Rattle.lanes.specs.declared.LaneOp.the-variants.{Add, Sub, Mul, Max, Min, Cgt, Shl, Shr}
-use Rattle.lanes.specs.declared.Width.the-variants.{B32}
-use Rattle.machine.specs.declared.operations.BitOp.the-variants.{And, Orr, Eor, Orn, Mov, Bsl}
-use Rattle.machine.specs.declared.operations.ConstantOp.the-variants as constant
-use Rattle.machine.specs.declared.operations.Operation.{Operation}
-use Rattle.machine.specs.declared.operations.Operation.the-variants.{Lanes, Bits, Constant}
-use Rattle.machine.specs.declared.forms.Form.{Form}
-use Rattle.machine.specs.Forms.{widthAt}
-use Rattle.machine.specs.Meaning.{Act, repeated, on, countOf, meaningIn}
-use Rattle.machine.specs.Operations.{Sized}
-use Rattle.machine.proofs.Actions.{repeated-lt}
-use Rattle.sheet.specs.declared.steps.Step.{Step}
-use Rattle.sheet.specs.Meaning.{row, signOf}
-use Rattle.sheet.specs.Naming.{sized, signed}
-use Rattle.sheet.specs.Pairs.{two, three, number, halfPairs, pairTable, pairsBy}
-use Rattle.sheet.specs.Rules.{table, usesOf}
-use Rattle.sheet.proofs.Carried.{bits-small, left-carried, right-carried, set-carried}
-use Rattle.sheet.proofs.Constant.{halfActs, half-does, half-few}
+use Rattle.insn.specs.declared.Width.the-variants.{B32}
+use Rattle.operations.specs.declared.BitOp.the-variants.{And, Orr, Eor, Orn, Mov, Bsl}
+use Rattle.operations.specs.declared.ConstantOp.the-variants as constant
+use Rattle.operations.specs.declared.Operation.{Operation}
+use Rattle.operations.specs.declared.Operation.the-variants.{Lanes, Bits, Constant}
+use Rattle.forms.specs.declared.Form.{Form}
+use Rattle.insn.specs.Widths.{widthAt}
+use Rattle.meanings.specs.Meaning.{Act, repeated, on, countOf, meaningIn}
+use Rattle.operations.specs.Operations.{Sized}
+use Rattle.meanings.proofs.Actions.{repeated-lt}
+use Rattle.steps.specs.declared.Step.{Step}
+use Rattle.steps.specs.Meaning.{signOf}
+use Rattle.recipes.specs.Naming.{sized, signed}
+use Rattle.recipes.specs.Pairs.{immediate, halfPairs, recipeOf, pairTable, pairsBy, twoOf, threeOf}
+use Rattle.steps.specs.Rules.{table, usesOf}
+use Rattle.recipes.proofs.Names.{Known, add-known, sub-known, mul-known, max-known, min-known, greater-known, and-known, orr-known, eor-known, orn-known, bsl-known, left-known, right-known, set-word-known, left-classed, right-classed}
+use Rattle.recipes.proofs.Carried.{bits-small, left-carried, right-carried, set-carried}
+use Rattle.sheet.proofs.Constant.{halfActs, recipe-does}
 use Rattle.sheet.proofs.Doing.{Does, does-append}
-use Rattle.sheet.proofs.Each.{each}
-use Rattle.sheet.proofs.Executes.{Is, quad-is, Known, three-executes, copy-executes, shift-executes, number-executes}
-use Rattle.sheet.proofs.Kept.{Kept}
-use Rattle.sheet.proofs.Names.{add-known, sub-known, mul-known, max-known, min-known, greater-known, and-known, orr-known, eor-known, orn-known, bsl-known, left-known, right-known, set-word-known}
-use Rattle.sheet.proofs.Rows.{quad, one}
+use Rattle.steps.proofs.Each.{each}
+use Rattle.sheet.proofs.Executes.{Stands, quad-stands, Means, three-executes, copy-executes, shift-executes, number-executes}
+use Rattle.steps.proofs.Kept.{Kept}
+use Rattle.sheet.proofs.Names.{add-means, sub-means, mul-means, max-means, min-means, greater-means, and-means, orr-means, eor-means, orn-means, bsl-means, left-means, right-means, set-word-means, copy-means}
+use Rattle.sheet.proofs.Rows.{quad}
 
 -- the operations of a step of each kind
 unfoldable pub actTable : Step → ℕ → ℕ → ℕ → ℕ → List (List Act)
@@ -63,31 +64,31 @@ actTable s t a b c =
 unfoldable pub actsBy : ℕ → Step → List Act
 actsBy kind s = getD (actTable s (s .target) (s .a) (s .b) (s .c)) kind []
 
--- a row as a register
-reg : (r : ℕ) → r < 14 → Is true (Q r) (2 * r)
-reg r h = quad-is r (omega arith)
+-- a rowAt as a register
+reg : (r : ℕ) → r < 14 → Stands true (Q r) (2 * r)
+reg r h = quad-stands r (omega arith)
 
-q14 : Is true (Q 14) (2 * 14)
-q14 = quad-is 14 (lit< tt)
+q14 : Stands true (Q 14) (2 * 14)
+q14 = quad-stands 14 (lit< tt)
 
 module _ (s : Step) where
   -- three rows of a name with no constant
-  plain : {name : String} {f : Form} (op : Operation) (x y z : ℕ) → Sized op → Known name f → countOf f ≡ 3
-      → ((a b c : Operand) → meaningIn f a b c ≡ on op a b c) → x < 14 → y < 14 → z < 14 → Does (three name (Q x) (Q y) (Q z) ∷ []) (quad op x y z ∷ [])
-  plain op x y z sized known counted meant hx hy hz =
-      (three-executes (reg x hx) (reg y hy) (reg z hz) op known counted (meant (Q x) (Q y) (Q z)), (sized, tt))
+  plain : {name : String} {number cell : ℕ} {f : Form} (op : Operation) (x y z : ℕ) → Sized op → Known false name number (Same3 cell) → Means name f → countOf f ≡ 3
+      → ((a b c : Operand) → meaningIn f a b c ≡ on op a b c) → x < 14 → y < 14 → z < 14 → Does (threeOf name (Q x) (Q y) (Q z) ∷ []) (quad op x y z ∷ [])
+  plain op x y z sized known means counted meant hx hy hz =
+      (three-executes (reg x hx) (reg y hy) (reg z hz) op known means counted (meant (Q x) (Q y) (Q z)), (sized, tt))
 
   shifted : Kept (usesOf 10) s → (b : Bool) → eqb (s .amount) 0 ≡ b
-      → Does (choose b (two "vmov" (Q (s .target)) (Q (s .a))) (three (sized (signed "vshr." (s .sign)) (s .width)) (Q (s .target)) (Q (s .a)) (number (s .amount))) ∷ [])
+      → Does (choose b (twoOf "vmov" (Q (s .target)) (Q (s .a))) (threeOf (sized (signed "vshr." (s .sign)) (s .width)) (Q (s .target)) (Q (s .a)) (immediate (s .amount))) ∷ [])
       (choose b (quad (Bits Mov) (s .target) (s .a) (s .a)) (quad (Lanes (Shr (signOf (s .sign)) (s .amount)) (widthAt (s .width))) (s .target) (s .a) (s .a)) ∷ [])
   unfolding table
-  shifted p true e = (copy-executes (reg _ (p .target)) (reg _ (p .a)), (tt, tt))
+  shifted p true e = (copy-executes copy-means (reg _ (p .target)) (reg _ (p .a)), (tt, tt))
   shifted p false e =
       let n = eqb-false (s .amount) 0 e in
       let h = p .amount in
       let small = bits-small (s .width) (p .width) in
       let c = right-carried (s .width) (s .amount) (p .width) (omega arith) (omega arith) in
-      (shift-executes (s .amount) (c .0) (reg _ (p .target)) (reg _ (p .a)) (right-known (s .sign) (s .width) (p .width)) (λ q. (refl, refl)) (omega arith) (c .1), (tt, tt))
+      (shift-executes (s .amount) (c .0) (reg _ (p .target)) (reg _ (p .a)) (right-known (s .sign) (s .width) (p .width)) (right-classed (s .sign) (s .width) (p .width)) (right-means (s .sign) (s .width) (p .width)) (λ q. (refl, refl)) (omega arith) (c .1), (tt, tt))
 
   -- the pairs of a step do its operations
   abbrev Written : ℕ → Type 0
@@ -98,39 +99,39 @@ module _ (s : Step) where
   written = each Written 15 (
     (λ p. let h = p .target in
         does-append (halfPairs (2 * s .target) (s .low)) _ (halfActs (2 * s .target) (s .low)) _
-        (half-does (2 * s .target) (s .low) (omega arith)) (half-does (2 * s .target + 1) (s .high) (omega arith))),
+        (recipe-does (2 * s .target) (recipeOf (s .low)) (omega arith)) (recipe-does (2 * s .target + 1) (recipeOf (s .high)) (omega arith))),
     (
-      (λ p. (copy-executes (reg _ (p .target)) (reg _ (p .a)), (tt, tt))),
+      (λ p. (copy-executes copy-means (reg _ (p .target)) (reg _ (p .a)), (tt, tt))),
       (
-        (λ p. plain (Lanes Add _) _ _ _ tt (add-known _ (p .width)) refl (λ a b c. refl) (p .target) (p .a) (p .b)),
+        (λ p. plain (Lanes Add _) _ _ _ tt (add-known _ (p .width)) (add-means _ (p .width)) refl (λ a b c. refl) (p .target) (p .a) (p .b)),
         (
-          (λ p. plain (Lanes Sub _) _ _ _ tt (sub-known _ (p .width)) refl (λ a b c. refl) (p .target) (p .a) (p .b)),
+          (λ p. plain (Lanes Sub _) _ _ _ tt (sub-known _ (p .width)) (sub-means _ (p .width)) refl (λ a b c. refl) (p .target) (p .a) (p .b)),
           (
-            (λ p. plain (Lanes Mul _) _ _ _ tt (mul-known _ (p .width)) refl (λ a b c. refl) (p .target) (p .a) (p .b)),
+            (λ p. plain (Lanes Mul _) _ _ _ tt (mul-known _ (p .width)) (mul-means _ (p .width)) refl (λ a b c. refl) (p .target) (p .a) (p .b)),
             (
-              (λ p. plain (Bits And) _ _ _ tt and-known refl (λ a b c. refl) (p .target) (p .a) (p .b)),
+              (λ p. plain (Bits And) _ _ _ tt and-known and-means refl (λ a b c. refl) (p .target) (p .a) (p .b)),
               (
-                (λ p. plain (Bits Orr) _ _ _ tt orr-known refl (λ a b c. refl) (p .target) (p .a) (p .b)),
+                (λ p. plain (Bits Orr) _ _ _ tt orr-known orr-means refl (λ a b c. refl) (p .target) (p .a) (p .b)),
                 (
-                  (λ p. plain (Bits Eor) _ _ _ tt eor-known refl (λ a b c. refl) (p .target) (p .a) (p .b)),
+                  (λ p. plain (Bits Eor) _ _ _ tt eor-known eor-means refl (λ a b c. refl) (p .target) (p .a) (p .b)),
                   (
                     (λ p. let c = set-carried 0 (lit< tt) in
-                        (number-executes 0 (c .0) q14 set-word-known (c .1), (repeated-lt B32 0, (three-executes (reg _ (p .target)) q14 (reg _ (p .a)) (Bits Orn) orn-known refl refl, (tt, tt))))),
+                        (number-executes 0 (c .0) q14 set-word-known set-word-means refl (c .1), (repeated-lt B32 0, (three-executes (reg _ (p .target)) q14 (reg _ (p .a)) (Bits Orn) orn-known orn-means refl refl, (tt, tt))))),
                     (
                       (λ p. let h = p .amount in
                           let small = bits-small (s .width) (p .width) in
                           let c = left-carried (s .width) (s .amount) (p .width) (p .amount) in
-                          (shift-executes (s .amount) (c .0) (reg _ (p .target)) (reg _ (p .a)) (left-known (s .width) (p .width)) (λ q. (refl, refl)) (omega arith) (c .1), (tt, tt))),
+                          (shift-executes (s .amount) (c .0) (reg _ (p .target)) (reg _ (p .a)) (left-known (s .width) (p .width)) (left-classed (s .width) (p .width)) (left-means (s .width) (p .width)) (λ q. (refl, refl)) (omega arith) (c .1), (tt, tt))),
                       (
                         (λ p. shifted p (eqb (s .amount) 0) refl),
                         (
-                          (λ p. plain (Lanes (Max _) _) _ _ _ tt (max-known (s .sign) _ (p .width)) refl (λ a b c. refl) (p .target) (p .a) (p .b)),
+                          (λ p. plain (Lanes (Max _) _) _ _ _ tt (max-known (s .sign) _ (p .width)) (max-means (s .sign) _ (p .width)) refl (λ a b c. refl) (p .target) (p .a) (p .b)),
                           (
-                            (λ p. plain (Lanes (Min _) _) _ _ _ tt (min-known (s .sign) _ (p .width)) refl (λ a b c. refl) (p .target) (p .a) (p .b)),
+                            (λ p. plain (Lanes (Min _) _) _ _ _ tt (min-known (s .sign) _ (p .width)) (min-means (s .sign) _ (p .width)) refl (λ a b c. refl) (p .target) (p .a) (p .b)),
                             (
-                              (λ p. plain (Lanes (Cgt _) _) _ _ _ tt (greater-known (s .sign) _ (p .width)) refl (λ a b c. refl) (p .target) (p .b) (p .a)),
+                              (λ p. plain (Lanes (Cgt _) _) _ _ _ tt (greater-known (s .sign) _ (p .width)) (greater-means (s .sign) _ (p .width)) refl (λ a b c. refl) (p .target) (p .b) (p .a)),
                               (
-                                (λ p. (copy-executes q14 (reg _ (p .c)), (tt, (three-executes q14 (reg _ (p .a)) (reg _ (p .b)) (Bits Bsl) bsl-known refl refl, (tt, (copy-executes (reg _ (p .target)) q14, (tt, tt))))))),
+                                (λ p. (copy-executes copy-means q14 (reg _ (p .c)), (tt, (three-executes q14 (reg _ (p .a)) (reg _ (p .b)) (Bits Bsl) bsl-known bsl-means refl refl, (tt, (copy-executes copy-means (reg _ (p .target)) q14, (tt, tt))))))),
                                 tt,
                               ),
                             ),
@@ -147,62 +148,3 @@ module _ (s : Step) where
       ),
     ),
   )
-
--- at most twenty pairs
-pub few : (s : Step) (k : ℕ) → k < 15 → length (pairsBy k s) ≤ 20
-unfolding pairsBy pairTable
-few s =
-    let one : 1 ≤ 20 = omega arith in
-    each (λ (k : ℕ). length (pairsBy k s) ≤ 20) 15 (
-      simp length-append (omega (arith, half-few (2 * s .target) (s .low), half-few (2 * s .target + 1) (s .high))),
-      (one, (one, (one, (one, (one, (one, (one, (omega arith, (one, (one, (one, (one, (one, (omega arith, tt)))))))))))))),
-    )
-
--- one pair, but for kinds 0, 8 and 14
-pub one-pair : (s : Step) (k : ℕ) → k < 15 → k ≢ 0 → k ≢ 8 → k ≢ 14 → length (pairsBy k s) ≡ 1
-unfolding pairsBy pairTable
-one-pair s =
-    let P : ℕ → Type 0 = λ (k : ℕ). k ≢ 0 → k ≢ 8 → k ≢ 14 → length (pairsBy k s) ≡ 1 in
-    each P 15 (
-      (λ a b c. absurd (a refl)),
-      (
-        (λ a b c. refl),
-        (
-          (λ a b c. refl),
-          (
-            (λ a b c. refl),
-            (
-              (λ a b c. refl),
-              (
-                (λ a b c. refl),
-                (
-                  (λ a b c. refl),
-                  (
-                    (λ a b c. refl),
-                    (
-                      (λ a b c. absurd (b refl)),
-                      (
-                        (λ a b c. refl),
-                        (
-                          (λ a b c. refl),
-                          (
-                            (λ a b c. refl),
-                            (
-                              (λ a b c. refl),
-                              (
-                                (λ a b c. refl),
-                                ((λ a b c. absurd (c refl)), tt),
-                              ),
-                            ),
-                          ),
-                        ),
-                      ),
-                    ),
-                  ),
-                ),
-              ),
-            ),
-          ),
-        ),
-      ),
-    )

@@ -9,28 +9,31 @@ use native.Mathlib.Nat.{mod-eq-of-lt, zero-mul, lt-of-lt-of-le, add-zero}
 use native.Mathlib.Omega.{arith}
 use lib.Bits.{bitOr, or-block, or-shifted-r, or-zero-r, and-mask, and-high}
 use lib.Dec.{eqb, lit<}
-use lib.ListN.{length, getD, set, take, length-set, length-append}
+use lib.ListN.{length, getD, set, take, length-set}
 use lib.Pow.{pow-mono, low, high}
 use lib.Seq.{take-set-lt, take-set-le, getD-set-same, getD-set-other, set-set, length-take-le}
 use borrow.Author.Tests.{eqb-true, eqb-false}
 use Rattle.laws.specs.Choice.{choose}
 use Rattle.insn.specs.declared.Operand.the-variants.{D}
-use Rattle.lanes.specs.declared.Width.the-variants.{B32, B64}
-use Rattle.machine.specs.declared.operations.BitOp.the-variants.{Bif}
-use Rattle.machine.specs.declared.operations.ConstantOp.the-variants.{Mov, Orr}
-use Rattle.machine.specs.declared.operations.Operation.{Operation}
-use Rattle.machine.specs.declared.operations.Operation.the-variants.{Bits, Constant}
-use Rattle.machine.specs.File.{File, readD}
-use Rattle.machine.specs.Meaning.{Act, act, registers, repeated, meaningIn}
-use Rattle.machine.specs.Operations.{bitwise, valueOf}
+use Rattle.insn.specs.declared.Width.the-variants.{B32, B64}
+use Rattle.operations.specs.declared.BitOp.the-variants.{Bif}
+use Rattle.operations.specs.declared.ConstantOp.the-variants.{Mov, Orr}
+use Rattle.operations.specs.declared.Operation.the-variants.{Bits, Constant}
+use Rattle.machine.specs.File.{File}
+use Rattle.meanings.specs.Meaning.{Act, act, registers, repeated, meaningIn}
+use Rattle.operations.specs.Operations.{bitwise, resultOf}
 use Rattle.machine.specs.Step.{effect}
-use Rattle.machine.proofs.Actions.{repeated-lt}
-use Rattle.sheet.specs.Meaning.{rowsOf}
-use Rattle.sheet.specs.Pairs.{two, number, byteOf, addByte, wordPairs, joined, halfPairs}
-use Rattle.sheet.proofs.Carried.{set-carried, join-carried, mask-carried}
+use Rattle.machine.proofs.Steps.{double-effect}
+use Rattle.meanings.proofs.Actions.{repeated-lt}
+use Rattle.steps.specs.Meaning.{rowsOf}
+use Rattle.recipes.specs.declared.Recipe.{Recipe}
+use Rattle.recipes.specs.declared.Recipe.the-variants.{Twice, Joined}
+use Rattle.recipes.specs.Pairs.{immediate, byteOf, addByte, wordPairs, joinPairs, recipeOf, recipePairs, twoOf}
+use Rattle.recipes.proofs.Names.{bif-known, set-word-known, join-word-known, set-long-known}
+use Rattle.recipes.proofs.Carried.{set-carried, join-carried, mask-carried}
 use Rattle.sheet.proofs.Doing.{doing, Does, does-append, doing-cons, doing-nil, doing-append}
-use Rattle.sheet.proofs.Executes.{double-is, three-executes, number-executes}
-use Rattle.sheet.proofs.Names.{bif-known, set-word-known, join-word-known, set-long-known}
+use Rattle.sheet.proofs.Executes.{double-stands, three-executes, number-executes}
+use Rattle.sheet.proofs.Names.{bif-means, set-word-means, join-word-means, set-long-means}
 use Rattle.sheet.proofs.Rows.{paired-set, take-paired}
 
 -- what the pairs do
@@ -52,10 +55,12 @@ addAct r byte = choose (eqb byte 0) [] (joinWord r byte ∷ [])
 wordActs : ℕ → ℕ → List Act
 wordActs r v = setWord r (v % 256) ∷ (addAct r (byteOf v 1) ++ (addAct r (byteOf v 2) ++ addAct r (byteOf v 3)))
 
-pub halfActs : ℕ → ℕ → List Act
-halfActs r v =
-    choose (eqb (v % 2 ^ 32) (v / 2 ^ 32)) (wordActs r (v % 2 ^ 32))
-    (wordActs r (v % 2 ^ 32) ++ (wordActs 28 (v / 2 ^ 32) ++ (setMask ∷ joinHalves r ∷ [])))
+pub recipeActs : ℕ → Recipe → List Act
+recipeActs r (Twice v) = wordActs r v
+recipeActs r (Joined low high) = wordActs r low ++ (wordActs 28 high ++ (setMask ∷ joinHalves r ∷ []))
+
+abbrev pub halfActs : ℕ → ℕ → List Act
+halfActs r v = recipeActs r (recipeOf v)
 
 -- the recipe's pairs do this
 module _ (r : ℕ) (hr : r < 32) where
@@ -66,18 +71,18 @@ module _ (r : ℕ) (hr : r < 32) where
       byte : ℕ
       byte = b * 2 ^ (8 * k)
 
-      go : (t : Bool) → eqb byte 0 ≡ t → Does (choose t [] (two "vorr.i32" (D r) (number byte) ∷ [])) (choose t [] (joinWord r byte ∷ []))
+      go : (t : Bool) → eqb byte 0 ≡ t → Does (choose t [] (twoOf "vorr.i32" (D r) (immediate byte) ∷ [])) (choose t [] (joinWord r byte ∷ []))
       go true e = tt
       go false e =
           let n : b ≢ 0 = λ z. eqb-false byte 0 e (ap (λ (b : ℕ). b * 2 ^ (8 * k)) z ∙ zero-mul (2 ^ (8 * k))) in
           let c = join-carried k b hk hb n in
-          (number-executes byte (c .0) (double-is r hr) join-word-known (c .1), (repeated-lt B32 byte, tt))
+          (number-executes byte (c .0) (double-stands r hr) join-word-known join-word-means refl (c .1), (repeated-lt B32 byte, tt))
 
   word-does : (v : ℕ) → Does (wordPairs r v) (wordActs r v)
   unfolding wordPairs wordActs
   word-does v =
       let c = set-carried (v % 256) (omega arith) in (
-        number-executes (v % 256) (c .0) (double-is r hr) set-word-known (c .1),
+        number-executes (v % 256) (c .0) (double-stands r hr) set-word-known set-word-means refl (c .1),
         (
           repeated-lt B32 (v % 256),
           does-append (addByte r (byteOf v 1)) _ (addAct r (byteOf v 1)) _ (add-does (v / 2 ^ 8 % 256) 1 (omega arith) (omega arith))
@@ -86,51 +91,19 @@ module _ (r : ℕ) (hr : r < 32) where
         ),
       )
 
-join-does : (r : ℕ) → r < 32 → Does (joined r) (setMask ∷ joinHalves r ∷ [])
-unfolding joined meaningIn
+join-does : (r : ℕ) → r < 32 → Does (joinPairs r) (setMask ∷ joinHalves r ∷ [])
+unfolding joinPairs meaningIn
 join-does r hr = (
-  number-executes 4294967295 (mask-carried .0) (double-is 30 (lit< tt)) set-long-known (mask-carried .1),
-  (repeated-lt B64 4294967295, (three-executes (double-is r hr) (double-is 28 (lit< tt)) (double-is 30 (lit< tt)) (Bits Bif) bif-known refl refl, (tt, tt))),
+  number-executes 4294967295 (mask-carried .0) (double-stands 30 (lit< tt)) set-long-known set-long-means refl (mask-carried .1),
+  (repeated-lt B64 4294967295, (three-executes (double-stands r hr) (double-stands 28 (lit< tt)) (double-stands 30 (lit< tt)) (Bits Bif) bif-known bif-means refl refl, (tt, tt))),
 )
 
-pub half-does : (r v : ℕ) → r < 32 → Does (halfPairs r v) (halfActs r v)
-unfolding halfPairs halfActs
-half-does r v hr = go (eqb (v % 2 ^ 32) (v / 2 ^ 32))
-  where
-    go : (t : Bool)
-        → Does (choose t (wordPairs r (v % 2 ^ 32)) (wordPairs r (v % 2 ^ 32) ++ (wordPairs 28 (v / 2 ^ 32) ++ joined r)))
-        (choose t (wordActs r (v % 2 ^ 32)) (wordActs r (v % 2 ^ 32) ++ (wordActs 28 (v / 2 ^ 32) ++ (setMask ∷ joinHalves r ∷ []))))
-    go true = word-does r hr (v % 2 ^ 32)
-    go false =
-        does-append (wordPairs r (v % 2 ^ 32)) _ (wordActs r (v % 2 ^ 32)) _ (word-does r hr (v % 2 ^ 32))
-        (does-append (wordPairs 28 (v / 2 ^ 32)) _ (wordActs 28 (v / 2 ^ 32)) _ (word-does 28 (lit< tt) (v / 2 ^ 32)) (join-does r hr))
-
--- at most ten pairs
-add-few : (r byte : ℕ) → length (addByte r byte) ≤ 1
-unfolding addByte
-add-few r byte = go (eqb byte 0)
-  where
-    go : (t : Bool) → length (choose t [] (two "vorr.i32" (D r) (number byte) ∷ [])) ≤ 1
-    go true = omega arith
-    go false = omega arith
-
-word-few : (r v : ℕ) → length (wordPairs r v) ≤ 4
-unfolding wordPairs
-word-few r v = simp length-append (omega (arith, add-few r (byteOf v 1), add-few r (byteOf v 2), add-few r (byteOf v 3)))
-
-pub half-few : (r v : ℕ) → length (halfPairs r v) ≤ 10
-unfolding halfPairs joined
-half-few r v = go (eqb (v % 2 ^ 32) (v / 2 ^ 32))
-  where
-    go : (t : Bool) → length (choose t (wordPairs r (v % 2 ^ 32)) (wordPairs r (v % 2 ^ 32) ++ (wordPairs 28 (v / 2 ^ 32) ++ joined r))) ≤ 10
-    go true = omega (arith, word-few r (v % 2 ^ 32))
-    go false = simp length-append (omega (arith, word-few r (v % 2 ^ 32), word-few 28 (v / 2 ^ 32)))
-
--- an operation on doublewords is one store
-double-effect : (op : Operation) (d n m : ℕ) (file : File)
-    → effect op (registers false d n m) file ≡ set file d (valueOf 64 op (readD file d) (readD file n) (readD file m))
-unfolding effect
-double-effect op d n m file = refl
+pub recipe-does : (r : ℕ) (h : Recipe) → r < 32 → Does (recipePairs r h) (recipeActs r h)
+unfolding recipePairs recipeActs
+recipe-does r (Twice v) hr = word-does r hr v
+recipe-does r (Joined low high) hr =
+    does-append (wordPairs r low) (wordPairs 28 high ++ joinPairs r) (wordActs r low) (wordActs 28 high ++ (setMask ∷ joinHalves r ∷ [])) (word-does r hr low)
+    (does-append (wordPairs 28 high) (joinPairs r) (wordActs 28 high) (setMask ∷ joinHalves r ∷ []) (word-does 28 (lit< tt) high) (join-does r hr))
 
 -- a word in both words of a doubleword
 abbrev twice : ℕ → ℕ
@@ -155,11 +128,11 @@ join-byte x b p h g k =
 
 module _ (file : File) (r : ℕ) (size : length file ≡ 32) (hr : r < 32) where
   set-left : (x : ℕ) → x < 2 ^ 32 → effect (Constant Mov (repeated B32 x)) (registers false r r r) file ≡ set file r (twice x)
-  unfolding valueOf
-  set-left x h = rw (double-effect (Constant Mov (repeated B32 x)) r r r file, repeated-word x h, add-zero)
+  unfolding resultOf
+  set-left x h = rw (double-effect (Constant Mov (repeated B32 x)) file r r r, repeated-word x h, add-zero)
 
   add-left : (byte x : ℕ) → byte < 2 ^ 32 → doing (addAct r byte) (set file r x) ≡ set file r (bitOr x (twice byte))
-  unfolding addAct valueOf
+  unfolding addAct resultOf
   add-left byte x h = go (eqb byte 0) refl
     where
       go : (t : Bool) → eqb byte 0 ≡ t → doing (choose t [] (joinWord r byte ∷ [])) (set file r x) ≡ set file r (bitOr x (twice byte))
@@ -168,7 +141,7 @@ module _ (file : File) (r : ℕ) (size : length file ≡ 32) (hr : r < 32) where
           rw (
             doing-cons,
             doing-nil,
-            double-effect (Constant Orr (repeated B32 byte)) r r r (set file r x),
+            double-effect (Constant Orr (repeated B32 byte)) (set file r x) r r r,
             repeated-word byte h,
             getD-set-same file r x 0 (omega arith),
             set-set,
@@ -224,7 +197,7 @@ module _ (file : File) (r v : ℕ) (size : length file ≡ 32) (hr : r < 28) (hv
   f3 = set f2 30 4294967295
 
   different : take 28 (doing (wordActs r lo ++ (wordActs 28 hi ++ (setMask ∷ joinHalves r ∷ []))) file) ≡ set (take 28 file) r v
-  unfolding valueOf
+  unfolding resultOf
   different =
       let s1 : length f1 ≡ 32 = length-set file r (twice lo) ∙ size in
       let s2 : length f2 ≡ 32 = length-set f1 28 (twice hi) ∙ s1 in
@@ -238,11 +211,11 @@ module _ (file : File) (r v : ℕ) (size : length file ≡ 32) (hr : r < 28) (hv
         doing-append (wordActs 28 hi) (setMask ∷ joinHalves r ∷ []) f1,
         word-left f1 28 s1 (omega arith) hi (omega arith),
         doing-cons,
-        double-effect (Constant Mov (repeated B64 4294967295)) 30 30 30 f2,
+        double-effect (Constant Mov (repeated B64 4294967295)) f2 30 30 30,
         repeated-mask,
         doing-cons,
         doing-nil,
-        double-effect (Bits Bif) r 28 30 f3,
+        double-effect (Bits Bif) f3 r 28 30,
         d,
         n,
         m,
@@ -256,11 +229,10 @@ module _ (file : File) (r v : ℕ) (size : length file ≡ 32) (hr : r < 28) (hv
       )
 
   pub half-left : take 28 (doing (halfActs r v) file) ≡ set (take 28 file) r v
-  unfolding halfActs
+  unfolding recipeActs recipeOf
   half-left = go (eqb lo hi) refl
     where
-      go : (t : Bool) → eqb lo hi ≡ t
-          → take 28 (doing (choose t (wordActs r lo) (wordActs r lo ++ (wordActs 28 hi ++ (setMask ∷ joinHalves r ∷ [])))) file) ≡ set (take 28 file) r v
+      go : (t : Bool) → eqb lo hi ≡ t → take 28 (doing (recipeActs r (choose t (Twice lo) (Joined lo hi))) file) ≡ set (take 28 file) r v
       go true e =
           let s : lo ≡ hi = eqb-true lo hi e in
           let f : twice lo ≡ v = omega arith in

@@ -2,20 +2,18 @@
 -- Assumes nothing.
 use mathlib.Core.Path.{_≡_, refl}
 use mathlib.Core.List.{List, [], _∷_, _++_}
-use Prim.Native.Nat.{_+_, _*_}
-use native.Mathlib.Omega.{arith}
 use lib.ListN.{length}
 use Rattle.laws.specs.Answer.{accepted}
 use Rattle.insn.specs.declared.Insn.{Insn}
-use Rattle.machine.specs.declared.operations.Operation.{Operation}
-use Rattle.machine.specs.declared.meanings.Registers.{Registers}
+use Rattle.operations.specs.declared.Operation.{Operation}
+use Rattle.meanings.specs.declared.Registers.{Registers}
 use Rattle.machine.specs.File.{File, Good}
-use Rattle.machine.specs.Meaning.{Act, act}
-use Rattle.machine.specs.Operations.{Sized}
-use Rattle.machine.specs.Run.{steps}
+use Rattle.meanings.specs.Meaning.{Act, act}
+use Rattle.operations.specs.Operations.{Sized}
+use Rattle.machine.specs.Run.{stepsBy, machineSteps}
 use Rattle.machine.specs.Step.{effect}
 use Rattle.machine.proofs.Steps.{effect-good}
-use Rattle.sheet.specs.Pairs.{codeOf}
+use Rattle.recipes.specs.Pairs.{halfwordsOf}
 use Rattle.sheet.proofs.Executes.{Executes}
 
 -- what operations leave, one after another
@@ -57,18 +55,10 @@ doing-good [] (act op r ∷ xs) file d g = absurd d
 doing-good (i ∷ is) [] file d g = absurd d
 doing-good (i ∷ is) (act op r ∷ xs) file d g = doing-good is xs (effect op r file) (d .1 .1) (effect-good op file r (d .1 .0) g)
 
--- two halfwords a record
-pub code-length : (is : List Insn) (xs : List Act) → Does is xs → length (codeOf is) ≡ 2 * length is
-unfolding codeOf
-code-length [] [] d = refl
-code-length [] (act op r ∷ xs) d = absurd d
-code-length (i ∷ is) [] d = absurd d
-code-length (i ∷ is) (act op r ∷ xs) d = rw (d .0 .wrote) (omega (arith, code-length is xs (d .1 .1)))
-
 -- a machine step a record
-pub code-steps : (is : List Insn) (xs : List Act) (file : File) → Does is xs → steps (length is) (codeOf is) file ≡ accepted (doing xs file)
-unfolding codeOf steps doing
+pub code-steps : (is : List Insn) (xs : List Act) (file : File) → Does is xs → machineSteps (length is) (halfwordsOf is) file ≡ accepted (doing xs file)
+unfolding halfwordsOf stepsBy doing
 code-steps [] [] file d = refl
 code-steps [] (act op r ∷ xs) file d = absurd d
 code-steps (i ∷ is) [] file d = absurd d
-code-steps (i ∷ is) (act op r ∷ xs) file d = rw (d .0 .wrote, d .0 .stepped file) (code-steps is xs (effect op r file) (d .1 .1))
+code-steps (i ∷ is) (act op r ∷ xs) file d = rw (d .0 .writes .wrote, d .0 .stepped file) (code-steps is xs (effect op r file) (d .1 .1))

@@ -9,13 +9,13 @@ use native.Mathlib.Omega.{arith}
 use lib.Arith.{digits-lt}
 use lib.ListN.{length, getD, set, take}
 use lib.Seq.{take-set-lt, getD-take}
-use Rattle.machine.specs.declared.operations.Operation.{Operation}
-use Rattle.machine.specs.File.{File, Good, readQ}
-use Rattle.machine.specs.Meaning.{Act, act, registers}
-use Rattle.machine.specs.Operations.{valueOf, Sized}
+use Rattle.operations.specs.declared.Operation.{Operation}
+use Rattle.machine.specs.File.{File, Good, readR}
+use Rattle.meanings.specs.Meaning.{Act, act, registers}
+use Rattle.operations.specs.Operations.{resultOf}
 use Rattle.machine.specs.Step.{effect}
-use Rattle.machine.proofs.Promises.{quadWhole}
-use Rattle.sheet.specs.Meaning.{paired, rowsOf, row}
+use Rattle.machine.proofs.Steps.{quad-effect}
+use Rattle.steps.specs.Meaning.{paired, rowsOf, rowAt}
 use Rattle.sheet.proofs.Doing.{doing, doing-cons, doing-nil}
 
 pub paired-set : (file : File) (t x y : ℕ) → 2 * t + 1 < length file → paired (set (set file (2 * t) x) (2 * t + 1) y) ≡ set (paired file) t (x + 2 ^ 64 * y)
@@ -28,7 +28,7 @@ paired-set (a ∷ b ∷ file) (suc t) x y h =
     let g : 2 * suc t ≡ suc (suc (2 * t)) = omega arith in
     rw (e, g, paired-set file t x y (omega arith))
 
-pub paired-get : (file : File) (t : ℕ) → 2 * t + 1 < length file → getD (paired file) t 0 ≡ readQ file t
+pub paired-get : (file : File) (t : ℕ) → 2 * t + 1 < length file → getD (paired file) t 0 ≡ readR true file (2 * t)
 paired-get [] t h = absurd (let b : ⊥ = omega arith in b)
 paired-get (a ∷ []) zero h = absurd (let b : ⊥ = omega arith in b)
 paired-get (a ∷ []) (suc t) h = absurd (let b : ⊥ = omega arith in b)
@@ -59,17 +59,16 @@ joined v = omega arith
 abbrev pub quad : Operation → ℕ → ℕ → ℕ → Act
 quad op t n m = act op (registers true (2 * t) (2 * n) (2 * m))
 
-module _ (op : Operation) (t n m : ℕ) (file : File) (ht : t < 16) (hn : n < 16) (hm : m < 16) (s : Sized op) (g : Good file) where
+module _ (op : Operation) (t n m : ℕ) (file : File) (ht : t < 16) (hn : n < 16) (hm : m < 16) (size : length file ≡ 32) where
   abbrev after : File
   after = effect op (registers true (2 * t) (2 * n) (2 * m)) file
 
   -- is one store to a row
-  pub quad-row : paired after ≡ set (paired file) t (valueOf 128 op (row (paired file) t) (row (paired file) n) (row (paired file) m))
+  pub quad-row : paired after ≡ set (paired file) t (resultOf 128 op (rowAt (paired file) t) (rowAt (paired file) n) (rowAt (paired file) m))
   quad-row =
-      let z = g .size in
-      let v = valueOf 128 op (readQ file t) (readQ file n) (readQ file m) in
+      let v = resultOf 128 op (readR true file (2 * t)) (readR true file (2 * n)) (readR true file (2 * m)) in
       rw (
-        quadWhole op t n m file s g,
+        quad-effect op file (2 * t) (2 * n) (2 * m),
         paired-set file t (v % 2 ^ 64) (v / 2 ^ 64) (omega arith),
         joined v,
         paired-get file t (omega arith),
@@ -78,9 +77,9 @@ module _ (op : Operation) (t n m : ℕ) (file : File) (ht : t < 16) (hn : n < 16
       )
 
 -- and where all three are rows of the sheet
-module _ (op : Operation) (t n m : ℕ) (file : File) (ht : t < 14) (hn : n < 14) (hm : m < 14) (s : Sized op) (g : Good file) where
+module _ (op : Operation) (t n m : ℕ) (file : File) (ht : t < 14) (hn : n < 14) (hm : m < 14) (size : length file ≡ 32) where
   pub one : rowsOf (doing (quad op t n m ∷ []) file)
-      ≡ set (rowsOf file) t (valueOf 128 op (row (rowsOf file) t) (row (rowsOf file) n) (row (rowsOf file) m))
+      ≡ set (rowsOf file) t (resultOf 128 op (rowAt (rowsOf file) t) (rowAt (rowsOf file) n) (rowAt (rowsOf file) m))
   unfolding rowsOf
   one =
       rw (
@@ -89,12 +88,12 @@ module _ (op : Operation) (t n m : ℕ) (file : File) (ht : t < 14) (hn : n < 14
         getD-take 14 (paired file) t 0 ht,
         getD-take 14 (paired file) n 0 hn,
         getD-take 14 (paired file) m 0 hm,
-        quad-row op t n m file (omega arith) (omega arith) (omega arith) s g,
+        quad-row op t n m file (omega arith) (omega arith) (omega arith) size,
       )
       (take-set-lt 14 (paired file) t _ ht)
 
 -- a row has 128 bits
-pub row-lt : (file : File) (r : ℕ) → r < 14 → Good file → row (rowsOf file) r < 2 ^ 128
+pub row-lt : (file : File) (r : ℕ) → r < 14 → Good file → rowAt (rowsOf file) r < 2 ^ 128
 unfolding rowsOf
 row-lt file r h g =
     let z = g .size in

@@ -3,19 +3,17 @@
 use mathlib.Core.Path.{_≡_, _∙_, ap}
 use mathlib.Core.Bool.{true}
 use mathlib.Core.List.{List, [], _∷_, _++_}
-use Prim.Native.Nat.{_*_, _≤_}
-use native.Mathlib.Omega.{arith}
-use lib.ListN.{length, length-append}
 use Rattle.machine.specs.File.{File, Good}
-use Rattle.machine.specs.Meaning.{Act}
-use Rattle.sheet.specs.declared.steps.Step.{Step}
-use Rattle.sheet.specs.Demand3.{AllKeep}
-use Rattle.sheet.specs.Meaning.{rowsOf, taken, meaning}
-use Rattle.sheet.specs.Pairs.{pairsBy, pairsOf}
-use Rattle.sheet.specs.Rules.{keeps}
-use Rattle.sheet.proofs.ByKind.{actsBy, written, few}
+use Rattle.meanings.specs.Meaning.{Act}
+use Rattle.steps.specs.declared.Step.{Step}
+use Rattle.steps.specs.Meaning.{rowsOf, taken, meaning}
+use Rattle.recipes.specs.Pairs.{pairsBy, pairsOf}
+use Rattle.recipes.proofs.ByKind.{step-few}
+use Rattle.sheet.specs.Demand3.{EachShort}
+use Rattle.steps.specs.Rules.{keeps, AllKeep}
+use Rattle.sheet.proofs.ByKind.{actsBy, written}
 use Rattle.sheet.proofs.Doing.{doing, Does, does-append, doing-nil, doing-append, doing-good}
-use Rattle.sheet.proofs.Kept.{kept-of, kind-small}
+use Rattle.steps.proofs.Kept.{kept-of, kind-small}
 use Rattle.sheet.proofs.Left.{left}
 
 -- the operations of all steps
@@ -45,7 +43,6 @@ sheet-left (s ∷ steps) k file g =
     ∙ ap (meaning steps) (step-left s (k .0) file g)
 
 -- at most twenty pairs a step
-pub sheet-few : (steps : List Step) → AllKeep steps → length (pairsOf steps) ≤ 20 * length steps
-unfolding pairsOf
-sheet-few [] k = omega arith
-sheet-few (s ∷ steps) k = simp length-append (omega (arith, few s (s .kind) (kind-small s (k .0)), sheet-few steps (k .1)))
+pub sheet-short : (steps : List Step) → AllKeep steps → EachShort steps
+sheet-short [] k = tt
+sheet-short (s ∷ steps) k = (step-few s (k .0), sheet-short steps (k .1))

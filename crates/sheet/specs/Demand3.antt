@@ -1,54 +1,39 @@
 -- Demand 3, of a whole sheet and its run.
 -- Assumes nothing.
-use mathlib.Core.Bool.{true}
 use mathlib.Core.List.{List, [], _∷_, _++_}
+use mathlib.Core.Logic.{_≢_}
 use mathlib.Core.Path.{_≡_}
-use Prim.Native.Nat.{ℕ, _*_, _%_, _≤_}
+use Prim.Native.Nat.{ℕ, _*_, _≤_}
 use lib.ListN.{length, take, drop}
-use Rattle.laws.specs.Answer.{accepted}
+use Rattle.laws.specs.Answer as stepping
+use Rattle.laws.specs.AnswerAt.{AnswerAt, accepted}
 use Rattle.machine.specs.File.{File}
-use Rattle.machine.specs.Run.{Run, done, steps}
-use Rattle.sheet.specs.declared.steps.Step.{Step}
-use Rattle.sheet.specs.Evaluation.{Evaluated, ran, refused, refusedAt}
-use Rattle.sheet.specs.Meaning.{rowsOf, meaning}
-use Rattle.sheet.specs.Pairs.{codeOf}
-use Rattle.sheet.specs.Rules.{keeps}
-use Rattle.sheet.specs.Steps.{stepsOf}
-use Rattle.sheet.specs.Translation.{recordsOf}
+use Rattle.machine.specs.Run.{Run, done, machineSteps}
+use Rattle.steps.specs.declared.Step.{Step}
+use Rattle.steps.specs.Meaning.{rowsOf, meaning}
+use Rattle.recipes.specs.Pairs.{pairsBy, halfwordsOf}
+use Rattle.steps.specs.Steps.{stepsOf}
+use Rattle.translator.specs.Translation.{recordsOf, Translates}
 
--- every step keeps the step rules
-abbrev pub AllKeep : List Step → Type 0
-AllKeep [] = Unit {0}
-AllKeep (s ∷ steps) = (keeps s ≡ true) × AllKeep steps
-
--- The bytes are 0 to 256 whole steps that keep the step rules, their pairs are n, and the output has two halfwords for each.
-pub record Translates (bytes : List ℕ) (room n : ℕ) : Type 0 where
-  pub whole : length bytes % 24 ≡ 0
-  pub few : length bytes ≤ 6144
-  pub keep : AllKeep (stepsOf bytes)
-  pub count : n ≡ length (recordsOf bytes)
-  pub long : 2 * n ≤ room
+-- at most 20 pairs for any one step
+abbrev pub EachShort : List Step → Type 0
+EachShort [] = Unit {0}
+EachShort (s ∷ rest) = (length (pairsBy (s .kind) s) ≤ 20) × EachShort rest
 
 -- done after exactly n pairs, with this file
-abbrev pub doneAfter : ℕ → File → Evaluated
-doneAfter n file = ran (record { ending = done; executed = n; file = file })
-
--- a refusal of the translation, and the file
-abbrev pub Refuses : Evaluated → File → Type 0
-Refuses (ran r) file = ⊥
-Refuses (refused r left) file = left ≡ file
-Refuses (refusedAt r i left) file = left ≡ file
+abbrev pub doneAfter : ℕ → File → AnswerAt Run
+doneAfter n file = accepted (record { ending = done; executed = n; file = file })
 
 -- From the bytes, the output, the file and the budget that come in, to the output, the file and the answer that come out.
-pub record Demand3 (bytes out : List ℕ) (file : File) (budget : ℕ) (out′ : List ℕ) (file′ : File) (answer : Evaluated) : Type 0 where
-  -- translated: the pairs stand at the front of the output, and the rest is as it was
-  pub written : (n : ℕ) → Translates bytes (length out) n → out′ ≡ codeOf (recordsOf bytes) ++ drop (2 * n) out
-  -- at most 20 pairs a step
-  pub short : (n : ℕ) → Translates bytes (length out) n → n ≤ 20 * length (stepsOf bytes)
+pub record Demand3 (bytes out : List ℕ) (file : File) (budget : ℕ) (out′ : List ℕ) (file′ : File) (answer : AnswerAt Run) : Type 0 where
+  -- translated: the pairs, two halfwords each and at most 20 a step, stand at the front of the output, and the rest is as it was
+  pub written : (n : ℕ) → Translates bytes (length out) n → out′ ≡ halfwordsOf (recordsOf bytes) ++ drop (2 * n) out
+  pub size : (n : ℕ) → Translates bytes (length out) n → length (halfwordsOf (recordsOf bytes)) ≡ 2 * n
+  pub short : (n : ℕ) → Translates bytes (length out) n → EachShort (stepsOf bytes)
   -- on a file of 32, with a budget of at least n: done after exactly n pairs, and rows 0 to 13 are as the steps say
   pub ends : (n : ℕ) → Translates bytes (length out) n → length file ≡ 32 → n ≤ budget → answer ≡ doneAfter n file′
   pub rows : (n : ℕ) → Translates bytes (length out) n → length file ≡ 32 → n ≤ budget → rowsOf file′ ≡ meaning (stepsOf bytes) (rowsOf file)
   -- however the run ends, the file is that of the machine steps that it counts
-  pub counted : (n : ℕ) (r : Run) → Translates bytes (length out) n → answer ≡ ran r → steps (r .executed) (take (2 * n) out′) file ≡ accepted file′
+  pub counted : (n : ℕ) (r : Run) → Translates bytes (length out) n → answer ≡ accepted r → machineSteps (r .executed) (take (2 * n) out′) file ≡ stepping.accepted file′
   -- not translated: a refusal, and all that was lent is as it was
-  pub refused : ((n : ℕ) → Translates bytes (length out) n → ⊥) → Refuses answer file × (out′ ≡ out)
+  pub refused : ((n : ℕ) → Translates bytes (length out) n → ⊥) → ((r : Run) → answer ≢ accepted r) × ((out′ ≡ out) × (file′ ≡ file))

@@ -1,10 +1,3 @@
-pub mod Steps
-pub mod Rules
-pub mod Meaning
-pub mod Naming
-pub mod Pairs
-pub mod Put
-pub mod Translation
 pub mod Evaluation
 pub mod Answers
 pub mod Demand3

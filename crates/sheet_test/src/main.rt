@@ -12,8 +12,7 @@ use replay::put;
 use replay::put_count;
 use replay::put_refused;
 use replay::same_file;
-use sheet::Evaluation;
-use sheet::Translation;
+use translator::Translation;
 
 // What a case answers: the refusal's number or 0, the step's index where it has one, and the pairs executed.
 struct Answer {
@@ -80,19 +79,9 @@ fn refused(f: Refusal, index: u64) -> Answer {
     }
 }
 
-// A sheet translated and run from the first pair.
-fn evaluated(sheet: &[u8], out: &mut [u16], file: &mut [u64], budget: u64) -> Answer {
-    let e = sheet::evaluate(sheet, out, file, budget);
-    match e {
-        Evaluation::Ran(ran) => ended(ran),
-        Evaluation::Refused(f) => refused(f, 0),
-        Evaluation::RefusedAt(f, i) => refused(f, i),
-    }
-}
-
-// A sheet translated, and run from another start.
-fn started(sheet: &[u8], out: &mut [u16], start: u64, file: &mut [u64], budget: u64) -> Answer {
-    let t = sheet::translate(sheet, out);
+// A sheet translated, and its pairs run from a start on.
+fn called(sheet: &[u8], out: &mut [u16], start: u64, file: &mut [u64], budget: u64) -> Answer {
+    let t = translator::translate(sheet, out);
     match t {
         Translation::Pairs(n) => {
             let end = 2 * (n % 10000) as usize;
@@ -106,19 +95,16 @@ fn started(sheet: &[u8], out: &mut [u16], start: u64, file: &mut [u64], budget: 
     }
 }
 
-fn called(sheet: &[u8], out: &mut [u16], start: u64, file: &mut [u64], budget: u64) -> Answer {
-    if start == 0 {
-        evaluated(sheet, out, file, budget)
-    } else {
-        started(sheet, out, start, file, budget)
-    }
-}
-
 // Whether an answer is the line's.
 fn said(line: &[u8; 1105], a: Answer) -> bool {
     a.number == field(line, 49, 2)
         && a.index == field(line, 52, 4)
         && a.executed == field(line, 57, 4)
+}
+
+// Whether the output and the file that are left are the line's.
+fn left(line: &[u8; 1105], out: &[u16; 10304], file: [u64; 32]) -> bool {
+    check(out) == field(line, 62, 16) && same_file(file, file_at(line, 592))
 }
 
 // Whether a case's sheet is answered as its line says, and leaves the output and the file that it says.
@@ -130,7 +116,7 @@ fn agrees(line: &[u8; 1105], sheet: &[u8]) -> bool {
     let room = (field(line, 5, 4) % 10304) as usize;
     let words = (field(line, 27, 4) % 33) as usize;
     let a = called(sheet, &mut out[..room], start, &mut file[..words], budget);
-    said(line, a) && check(&out) == field(line, 62, 16) && same_file(file, file_at(line, 592))
+    said(line, a) && left(line, &out, file)
 }
 
 // The second line of a case, whose sheet has that many bytes.

@@ -1,29 +1,24 @@
--- A mnemonic's home has its name, and a cell's name has that cell for its home: antt computes both, at each mnemonic and at each cell.
+-- The cells of the tables by one number, and the numbers by which the code's tables have them.
 -- Assumes nothing.
-use mathlib.Core.Path.{_≡_, refl, sym, _∙_, subst}
+use mathlib.Core.Path.{_≡_, refl, sym, ap, _∙_}
 use mathlib.Core.Bool.{Bool, true, false}
-use mathlib.Core.List.{List, [], _∷_}
-use Prim.Native.Nat.{ℕ, _+_, _*_, _/_, _%_, _<_}
+use mathlib.Core.List.{List, []}
+use Prim.Native.Nat.{ℕ, _+_, _*_, _/_, _%_, _<_, _≤_}
 use Prim.Native.String.{String}
-use lib.Dec.{T, ltb}
-use lib.ListN.{getD}
-use lib.Text.{eqt, eqt→eq}
-use borrow.Author.Tests.{ltb-true, ltb-false}
+use lib.Dec.{eqb}
+use lib.Text.{eqt}
+use lib.Arith.{digits-div, digits-mod}
+use lib.ListN.{length, getD, List·getD-eq-default}
+use native.Mathlib.Omega.{arith}
+use borrow.Author.Tests.{eqb-true}
 use Rattle.laws.specs.Choice.{choose}
+use Rattle.laws.proofs.Never.{wrong}
 use Rattle.laws.proofs.Range.{values, agree}
-use Rattle.laws.proofs.Never.{never, wrong}
+use Rattle.names.specs.Names.{names, nameOf, numberOf, blank}
 use Rattle.tables.specs.Cells.{cellAt}
 use Rattle.tables.specs.Same3.{same3}
-use Rattle.tables.specs.Shift.{shiftRows, shiftCells, shiftClasses, vmovl}
-use Rattle.tables.specs.Modimm.{modimm}
-use Rattle.tables.specs.Diff.{diffRows, diffCells}
-use Rattle.tables.specs.Names.{flat, names, nameOf, numberOf}
-use Rattle.tables.specs.Home.{placeIn, otherHome, homeOf}
-use Rattle.tables.specs.declared.ShiftClass.{ShiftClass}
-use Rattle.tables.specs.declared.ShiftClass.the-variants.{Right, Left, Narrow, Long, Convert}
-use Rattle.tables.specs.declared.home.Home.{Home}
-use Rattle.tables.specs.declared.home.Home.the-variants.{Same3, Shift, Vmovl, Modimm, Diff, Vmov, Nowhere}
-use Rattle.tables.proofs.Homes.{homeAt, no-home}
+use Rattle.tables.specs.Shift.{shiftRows, shiftCells}
+use Rattle.tables.proofs.Known.{same3-known, shift-known}
 
 -- the cell at a place of a table of four columns
 abbrev pub cell4 : List (List String) → ℕ → String
@@ -33,120 +28,55 @@ cell4 table k = cellAt table (k / 4) (k % 4)
 abbrev pub cell16 : List (List String) → ℕ → String
 cell16 table k = cellAt table (k / 16) (k % 16)
 
-abbrev and : Bool → Bool → Bool
-and a b = choose a b false
+-- a cell by its row and column in one number
+pub flat-cell : (table : List (List String)) (w r c : ℕ) → c < w → cellAt table ((r * w + c) / w) ((r * w + c) % w) ≡ cellAt table r c
+flat-cell table w r c h = rw (digits-div r h, digits-mod r h)
 
--- a home is within its table, and its cell has the name
-abbrev right : Home → String → Bool
-right (Same3 k) s = and (ltb k 256) (eqt (cell4 same3 k) s)
-right (Shift k) s = and (ltb k 256) (eqt (cell4 shiftCells k) s)
-right (Vmovl k) s = and (ltb k 8) (eqt (cell4 vmovl k) s)
-right (Modimm k) s = and (ltb k 32) (eqt (cell16 modimm k) s)
-right (Diff k) s = and (ltb k 128) (eqt (cell4 diffCells k) s)
-right Vmov s = eqt s "vmov"
-right Nowhere s = eqt s ""
+blank-number : numberOf "" ≡ blank
+unfolding names numberOf
+blank-number = refl
 
-right-named : (number : Bool) (m : ℕ) → m < 346 → right (homeAt number m) (nameOf m) ≡ true
-unfolding values same3 shiftRows shiftCells vmovl modimm diffRows diffCells flat names nameOf placeIn otherHome homeOf
-right-named true = agree (λ (m : ℕ). right (homeAt true m) (nameOf m)) (λ (m : ℕ). true) 346 refl
-right-named false = agree (λ (m : ℕ). right (homeAt false m) (nameOf m)) (λ (m : ℕ). true) 346 refl
+-- a row past the table is blank
+pub past : (table : List (List String)) (r c : ℕ) → length table ≤ r → blank ≡ numberOf (cellAt table r c)
+past table r c h =
+    sym (ap (λ (l : List String). numberOf (getD l c "")) (List·getD-eq-default table [] {n = r} h) ∙ blank-number)
 
--- a mnemonic has a name
-pub named : (m : ℕ) → m < 346 → eqt (nameOf m) "" ≡ false
-unfolding values names nameOf
-named = agree (λ (m : ℕ). eqt (nameOf m) "") (λ (m : ℕ). false) 346 refl
+-- a mnemonic's number in a table of bytes, and back; 255 is a blank cell there
+abbrev pub toByte : ℕ → ℕ
+toByte n = choose (eqb n blank) 255 n
 
-and-true : (a b : Bool) → and a b ≡ true → (a ≡ true) × (b ≡ true)
-and-true true b e = (refl, e)
-and-true false b e = wrong e
+abbrev pub fromByte : ℕ → ℕ
+fromByte b = choose (eqb b 255) blank b
 
-text : (s t : String) → eqt s t ≡ true → s ≡ t
-text s t e = eqt→eq s t (subst T (sym e) tt)
+abbrev pub byteAt : List (List String) → ℕ → ℕ
+byteAt table k = toByte (numberOf (cell4 table k))
 
--- a mnemonic at home in a table: its number, its place and its name
-pub record Stands (m k limit : ℕ) (cell : ℕ → String) : Type 0 where
-  pub known : m < 346
-  pub within : k < limit
-  pub spelled : cell k ≡ nameOf m
+byte-back : (n : ℕ) → eqb n 255 ≡ false → fromByte (toByte n) ≡ n
+byte-back n h = go (eqb n blank) refl
+  where
+    go : (t : Bool) → eqb n blank ≡ t → fromByte (choose t 255 n) ≡ n
+    go true e = sym (eqb-true n blank e)
+    go false e = rw h
 
-module _ (number : Bool) (m : ℕ) where
-  -- a mnemonic with a home has a number below 346, and the home is right
-  at-home : (h : Home) → homeAt number m ≡ h → (Nowhere ≡ h → _≡_ {A = ℕ} 0 1) → (m < 346) × (right h (nameOf m) ≡ true)
-  at-home h e n = go (ltb m 346) refl
-    where
-      go : (b : Bool) → ltb m 346 ≡ b → (m < 346) × (right h (nameOf m) ≡ true)
-      go true t = let l = ltb-true m 346 t in (l, rw e at (right-named number m l))
-      go false t = never (n (no-home number m (ltb-false m 346 t) ∙ e))
+-- 255 is the number of a name of VSHLL by 0
+not-byte : (s : String) → nameOf (numberOf s) ≡ s → eqt s "vmovl.s8" ≡ false → eqb (numberOf s) 255 ≡ false
+unfolding names nameOf
+not-byte s known other = go (eqb (numberOf s) 255) refl
+  where
+    go : (t : Bool) → eqb (numberOf s) 255 ≡ t → eqb (numberOf s) 255 ≡ false
+    go false e = e
+    go true e = wrong (sym other ∙ ap (λ (x : String). eqt x "vmovl.s8") (sym known ∙ ap nameOf (eqb-true (numberOf s) 255 e)))
 
-  stands : (k limit : ℕ) (cell : ℕ → String) → (m < 346) × (and (ltb k limit) (eqt (cell k) (nameOf m)) ≡ true) → Stands m k limit cell
-  stands k limit cell h =
-      let w = and-true (ltb k limit) _ (h .1) in
-      record { known = h .0; within = ltb-true k limit (w .0); spelled = text _ _ (w .1) }
+pub same3-byte : (k : ℕ) → k < 256 → fromByte (byteAt same3 k) ≡ numberOf (cell4 same3 k)
+unfolding values same3
+same3-byte k h =
+    byte-back _
+    (not-byte _ (same3-known (k / 4) (k % 4) (omega arith) (omega arith))
+    (agree (λ (k : ℕ). eqt (cell4 same3 k) "vmovl.s8") (λ (k : ℕ). false) 256 refl k h))
 
-  pub same3-stands : (k : ℕ) → homeAt number m ≡ Same3 k → Stands m k 256 (cell4 same3)
-  same3-stands k e = stands k 256 (cell4 same3) (at-home (Same3 k) e (λ n. cc))
-
-  pub shift-stands : (k : ℕ) → homeAt number m ≡ Shift k → Stands m k 256 (cell4 shiftCells)
-  shift-stands k e = stands k 256 (cell4 shiftCells) (at-home (Shift k) e (λ n. cc))
-
-  pub vmovl-stands : (k : ℕ) → homeAt number m ≡ Vmovl k → Stands m k 8 (cell4 vmovl)
-  vmovl-stands k e = stands k 8 (cell4 vmovl) (at-home (Vmovl k) e (λ n. cc))
-
-  pub modimm-stands : (k : ℕ) → homeAt number m ≡ Modimm k → Stands m k 32 (cell16 modimm)
-  modimm-stands k e = stands k 32 (cell16 modimm) (at-home (Modimm k) e (λ n. cc))
-
-  pub diff-stands : (k : ℕ) → homeAt number m ≡ Diff k → Stands m k 128 (cell4 diffCells)
-  diff-stands k e = stands k 128 (cell4 diffCells) (at-home (Diff k) e (λ n. cc))
-
-  pub vmov-stands : homeAt number m ≡ Vmov → (m < 346) × (nameOf m ≡ "vmov")
-  vmov-stands e = let h = at-home Vmov e (λ n. cc) in (h .0, text _ _ (h .1))
-
--- the home of a cell's name, where the cell is not blank
-pub same3-home : (k : ℕ) → k < 256 → eqt (cell4 same3 k) "" ≡ false → homeAt false (numberOf (cell4 same3 k)) ≡ Same3 k
-unfolding values same3 shiftRows shiftCells vmovl modimm diffRows diffCells flat names nameOf numberOf placeIn otherHome homeOf
-same3-home k h e =
-    rw e at (agree (λ (k : ℕ). choose (eqt (cell4 same3 k) "") (Same3 k) (homeAt false (numberOf (cell4 same3 k)))) Same3 256 refl k h)
-
-pub diff-home : (k : ℕ) → k < 128 → eqt (cell4 diffCells k) "" ≡ false → homeAt false (numberOf (cell4 diffCells k)) ≡ Diff k
-unfolding values same3 shiftRows shiftCells vmovl modimm diffRows diffCells flat names nameOf numberOf placeIn otherHome homeOf
-diff-home k h e =
-    rw e at (agree (λ (k : ℕ). choose (eqt (cell4 diffCells k) "") (Diff k) (homeAt false (numberOf (cell4 diffCells k)))) Diff 128 refl k h)
-
-pub vmovl-home : (k : ℕ) → k < 8 → eqt (cell4 vmovl k) "" ≡ false → homeAt false (numberOf (cell4 vmovl k)) ≡ Vmovl k
-unfolding values same3 shiftRows shiftCells vmovl modimm diffRows diffCells flat names nameOf numberOf placeIn otherHome homeOf
-vmovl-home k h e =
-    rw e at (agree (λ (k : ℕ). choose (eqt (cell4 vmovl k) "") (Vmovl k) (homeAt false (numberOf (cell4 vmovl k)))) Vmovl 8 refl k h)
-
--- the first row of A7-14 with the name of row k: op:cmode
-abbrev pub firstRow : ℕ → ℕ
-firstRow k = getD (0 ∷ 1 ∷ 0 ∷ 1 ∷ 0 ∷ 1 ∷ 0 ∷ 1 ∷ 8 ∷ 9 ∷ 8 ∷ 9 ∷ 0 ∷ 0 ∷ 14 ∷ 15 ∷ []) (k % 16) 0 + k / 16 * 16
-
-abbrev modimmHome : Bool → ℕ → Home
-modimmHome number k = choose (eqt (cell16 modimm k) "") (Modimm (firstRow k)) (homeAt number (numberOf (cell16 modimm k)))
-
-pub modimm-home : (number : Bool) (k : ℕ) → k < 32 → eqt (cell16 modimm k) "" ≡ false → homeAt number (numberOf (cell16 modimm k)) ≡ Modimm (firstRow k)
-unfolding values same3 shiftRows shiftCells vmovl modimm diffRows diffCells flat names nameOf numberOf placeIn otherHome homeOf
-modimm-home true k h e = rw e at (agree (modimmHome true) (λ (k : ℕ). Modimm (firstRow k)) 32 refl k h)
-modimm-home false k h e = rw e at (agree (modimmHome false) (λ (k : ℕ). Modimm (firstRow k)) 32 refl k h)
-
-pub vmov-home : homeAt false (numberOf "vmov") ≡ Vmov
-unfolding same3 shiftRows shiftCells vmovl modimm diffRows diffCells flat names nameOf numberOf placeIn otherHome homeOf
-vmov-home = refl
-
--- a row of A7-12 with a Q stands there twice: the first time B, the third bit, is 0
-abbrev pub firstCell : ShiftClass → ℕ → ℕ
-firstCell Right k = k / 8 * 8 + k % 4
-firstCell Left k = k / 8 * 8 + k % 4
-firstCell Convert k = k / 8 * 8 + k % 4
-firstCell Narrow k = k
-firstCell Long k = k
-
-abbrev pub classAt : ℕ → ShiftClass
-classAt k = getD shiftClasses (k / 4) Right
-
-pub shift-home : (k : ℕ) → k < 256 → eqt (cell4 shiftCells k) "" ≡ false → homeAt true (numberOf (cell4 shiftCells k)) ≡ Shift (firstCell (classAt k) k)
-unfolding values same3 shiftRows shiftCells shiftClasses vmovl modimm diffRows diffCells flat names nameOf numberOf placeIn otherHome homeOf
-shift-home k h e =
-    rw e at
-    (agree (λ (k : ℕ). choose (eqt (cell4 shiftCells k) "") (Shift (firstCell (classAt k) k)) (homeAt true (numberOf (cell4 shiftCells k))))
-    (λ (k : ℕ). Shift (firstCell (classAt k) k)) 256 refl k h)
+pub shift-byte : (k : ℕ) → k < 256 → fromByte (byteAt shiftCells k) ≡ numberOf (cell4 shiftCells k)
+unfolding values shiftRows shiftCells
+shift-byte k h =
+    byte-back _
+    (not-byte _ (shift-known (k / 4) (k % 4) (omega arith) (omega arith))
+    (agree (λ (k : ℕ). eqt (cell4 shiftCells k) "vmovl.s8") (λ (k : ℕ). false) 256 refl k h))

@@ -1,26 +1,15 @@
--- The promises of specs/Promises.antt: antt computes each.
+-- The promise of specs/Promises.antt: antt computes it.
 -- Assumes nothing.
 use mathlib.Core.Path.{refl}
-use Prim.Native.Nat.{ℕ}
-use Rattle.laws.proofs.Range.{values, agree}
+use Rattle.names.specs.Names.{names}
+use Rattle.tables.specs.Cells.{cellsOf}
 use Rattle.tables.specs.Same3.{same3}
 use Rattle.tables.specs.Shift.{shiftRows, shiftCells, vmovl}
 use Rattle.tables.specs.Modimm.{modimm}
 use Rattle.tables.specs.Diff.{diffRows, diffCells}
-use Rattle.tables.specs.Names.{flat, allCells, names, numberOf, nameOf}
-use Rattle.tables.specs.Promises.{NamesInOrder, NamesCounted, NamesShort, NumbersBack}
-use Rattle.tables.proofs.Spellings.{count, short}
+use Rattle.tables.specs.Order.{allCells}
+use Rattle.tables.specs.Promises.{NamesInOrder}
 
 pub namesInOrder : NamesInOrder
-unfolding same3 shiftRows shiftCells vmovl modimm diffRows diffCells flat allCells names
+unfolding same3 shiftRows shiftCells vmovl modimm diffRows diffCells cellsOf allCells names
 namesInOrder = refl
-
-pub namesCounted : NamesCounted
-namesCounted = count
-
-pub namesShort : NamesShort
-namesShort = short
-
-pub numbersBack : NumbersBack
-unfolding values names nameOf numberOf
-numbersBack = agree (λ (m : ℕ). numberOf (nameOf m)) (λ (m : ℕ). m) 346 refl

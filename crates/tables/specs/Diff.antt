@@ -5,7 +5,7 @@ use mathlib.Core.List.{List, [], _∷_, map}
 use Prim.Native.String.{String}
 use Rattle.insn.specs.declared.Mark.{Mark}
 use Rattle.insn.specs.declared.Mark.the-variants.{T1, T2}
-use Rattle.tables.specs.Cells.{row}
+use Rattle.tables.specs.Cells.{bySize}
 use Rattle.tables.specs.declared.DiffShape.{DiffShape}
 use Rattle.tables.specs.declared.DiffShape.the-variants.{Long, Wide, Narrow}
 
@@ -16,7 +16,7 @@ pub record DiffRow : Type 0 where
   pub cells : List String
 
 abbrev diff : DiffShape → Mark → String → String → String → String → DiffRow
-diff s m a b c d = record { shape = s; mark = m; cells = row a b c d }
+diff s m a b c d = record { shape = s; mark = m; cells = bySize a b c d }
 
 unfoldable pub diffRows : List DiffRow
 diffRows =

@@ -3,6 +3,6 @@ pub mod Same3
 pub mod Shift
 pub mod Modimm
 pub mod Diff
-pub mod Names
-pub mod Home
+pub mod Lengths
+pub mod Order
 pub mod Promises

@@ -2,21 +2,9 @@
 -- Assumes nothing.
 use mathlib.Core.Path.{_≡_}
 use mathlib.Core.List.{[]}
-use Prim.Native.Nat.{ℕ, _<_, _≤_}
-use lib.ListN.{length}
-use Rattle.tables.specs.Names.{allCells, firstAppearances, names, numberOf, nameOf, codes}
+use Rattle.names.specs.Names.{names}
+use Rattle.tables.specs.Order.{allCells, firstAppearances}
 
 -- the names are the cells of the five tables and vmov, numbered by first appearance
 abbrev pub NamesInOrder : Type 0
 NamesInOrder = names ≡ firstAppearances [] allCells
-
--- there are 346 of them, and none is longer than 12 bytes
-abbrev pub NamesCounted : Type 0
-NamesCounted = length names ≡ 346
-
-abbrev pub NamesShort : Type 0
-NamesShort = (m : ℕ) → length (codes (nameOf m)) ≤ 12
-
--- a number's name has that number
-abbrev pub NumbersBack : Type 0
-NumbersBack = (m : ℕ) → m < 346 → numberOf (nameOf m) ≡ m

@@ -3,7 +3,7 @@
 -- Assumes nothing.
 use mathlib.Core.List.{List, [], _∷_, map}
 use Prim.Native.String.{String}
-use Rattle.tables.specs.Cells.{row}
+use Rattle.tables.specs.Cells.{bySize}
 use Rattle.tables.specs.declared.ShiftClass.{ShiftClass}
 use Rattle.tables.specs.declared.ShiftClass.the-variants.{Right, Left, Narrow, Long, Convert}
 
@@ -13,7 +13,7 @@ pub record ShiftRow : Type 0 where
   pub cells : List String
 
 abbrev shift : ShiftClass → String → String → String → String → ShiftRow
-shift k a b c d = record { class = k; cells = row a b c d }
+shift k a b c d = record { class = k; cells = bySize a b c d }
 
 unfoldable pub shiftRows : List ShiftRow
 shiftRows =
@@ -92,6 +92,6 @@ shiftClasses = map (λ (r : ShiftRow). r .class) shiftRows
 -- what VSHLL by 0 is called, by U and the element size: VMOVL_NAMES in the source
 unfoldable pub vmovl : List (List String)
 vmovl =
-    row "vmovl.s8" "vmovl.s16" "vmovl.s32" "" ∷  -- U=0
-    row "vmovl.u8" "vmovl.u16" "vmovl.u32" "" ∷  -- U=1
+    bySize "vmovl.s8" "vmovl.s16" "vmovl.s32" "" ∷  -- U=0
+    bySize "vmovl.u8" "vmovl.u16" "vmovl.u32" "" ∷  -- U=1
     []

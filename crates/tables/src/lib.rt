@@ -4,9 +4,8 @@ ghost use lib.Dec.{eqb};
 ghost use Rattle.laws.specs.Choice.{choose};
 
 pub mod diff;
-pub mod home;
+pub mod lengths;
 pub mod modimm;
-pub mod names;
 pub mod same3;
 pub mod shift;
 

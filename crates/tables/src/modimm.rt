@@ -2,7 +2,7 @@
 ghost use mathlib.Core.Path.{_≡_};
 ghost use Prim.Native.Nat.{_/_, _%_};
 ghost use Rattle.tables.specs.Cells.{cellAt};
-ghost use Rattle.tables.specs.Names.{numberOf};
+ghost use Rattle.names.specs.Names.{numberOf};
 ghost use Rattle.tables.specs.Modimm.{modimm};
 use crate::BLANK;
 

@@ -5,7 +5,7 @@ use borrow.Author.Needs.{needs}
 use Rattle.machine.specs.Answers.{endingOf}
 use Rattle.machine.specs.Run.{Run}
 use Rattle.machine.specs.declared.Outcome.{Outcome}
-use Rattle.capi.specs.Codes.{endCode}
+use Rattle.capi.specs.Results.{endCode}
 use Rattle.capi.proofs.bodlixo_run.Statement.{statement}
 use Rattle.capi.proofs.bodlixo_run.Tie as tie
 

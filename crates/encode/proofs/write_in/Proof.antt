@@ -3,7 +3,7 @@
 use mathlib.Core.Path.{sym, _∙_}
 use borrow.Author.Needs.{needs}
 use Rattle.encode.specs.Forms.{isNumber}
-use Rattle.encode.proofs.Immediates.{plain-home}
+use Rattle.values.proofs.Immediates.{plain-home}
 use Rattle.encode.proofs.write_in.Statement.{statement}
 use Rattle.encode.proofs.write_in.Tie as tie
 

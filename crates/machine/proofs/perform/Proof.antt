@@ -2,12 +2,25 @@
 -- Assumes nothing.
 use native.Mathlib.Omega.{arith}
 use borrow.Author.Needs.{needs}
-use Rattle.machine.specs.Step.{effect}
+use Rattle.machine.proofs.Held.{file-good, operation-sized}
+use Rattle.machine.proofs.Steps.{double-stored, quad-stored}
 use Rattle.machine.proofs.perform.Statement.{statement}
 use Rattle.machine.proofs.perform.Tie as tie
 
+returns : tie.Need-returns
+returns c =
+    let b = c .before .before in
+    let s = b .before .before .before .before in
+    quad-stored (s .args .op) (s .args .t1) (s .args .r) _ (b .value .ensures) _ (c .value2 .ensures) (c .before .if1 .taken)
+    (operation-sized (s .args .op) _ (s .good .1 .0)) (file-good (s .args .t1) _ (s .good .0))
+
+returns-2 : tie.Need-returns-2
+returns-2 c =
+    let b = c .before in
+    let s = b .before .before .before .before in
+    double-stored (s .args .op) (s .args .t1) (s .args .r) _ (b .value .ensures) (c .if1 .left)
+
 pub perform-spec : {M : Type 1} → statement M
-unfolding effect
 perform-spec =
     tie.close
     (tie.spec
@@ -36,5 +49,5 @@ perform-spec =
     (λ c. search needs)
     (λ c. search needs)
     (λ c. let u = c .before .before .before .before .before .before .pre .upper (c .before .if1 .taken) in omega arith)
-    (λ c. rw (c .before .if1 .taken, c .value2 .ensures, c .before .before .value .ensures))
-    (λ c. rw (c .if1 .left, c .before .value .ensures)))
+    returns
+    returns-2)

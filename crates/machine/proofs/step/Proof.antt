@@ -1,8 +1,11 @@
 -- `machine::step` meets its contract.
 -- Assumes nothing.
-use mathlib.Core.Path.{refl, sym, ap, _∙_}
+use mathlib.Core.Path.{_≡_, refl, sym, ap, _∙_}
 use borrow.Author.Needs.{needs}
+use Rattle.laws.specs.Answer.{accepted, refused}
+use Rattle.insn.specs.Refusals.{number}
 use Rattle.decode.specs.Answers.{readingAnswer}
+use Rattle.decode.specs.Reading.{reading}
 use Rattle.machine.specs.Step.{stepRead}
 use Rattle.machine.proofs.step.Statement.{statement}
 use Rattle.machine.proofs.step.Tie as tie
@@ -10,13 +13,19 @@ use Rattle.machine.proofs.step.Tie as tie
 returns : tie.Need-returns
 unfolding stepRead
 returns c =
-    let e = sym (c .before .before .before .before .read .ensures) ∙ ap readingAnswer (c .before .before .answer .given .1) in
+    let o = c .before .before .answer .given in
+    let b = c .before .before .before .before in
+    let a = b .before .args in
+    let e : reading (a .hw1) (a .hw2) 0 ≡ accepted (o .0 .0) = sym (b .read .ensures) ∙ ap readingAnswer (o .1) in
     rw e (c .step-insn .ensures)
 
 returns-2 : tie.Need-returns-2
 unfolding stepRead
 returns-2 c =
-    let e = sym (c .before .before .before .read .ensures) ∙ ap readingAnswer (c .before .answer2 .given .1) in
+    let o = c .before .answer2 .given in
+    let b = c .before .before .before in
+    let a = b .before .args in
+    let e : reading (a .hw1) (a .hw2) 0 ≡ refused (number (o .0 .0)) = sym (b .read .ensures) ∙ ap readingAnswer (o .1) in
     rw e (refl, refl)
 
 pub step-spec : {M : Type 1} → statement M

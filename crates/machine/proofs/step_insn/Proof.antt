@@ -1,16 +1,33 @@
 -- `machine::step_insn` meets its contract.
 -- Assumes nothing.
-use mathlib.Core.Path.{sym, ap, _∙_}
+use mathlib.Core.Path.{_≡_, refl, sym, ap, _∙_}
 use borrow.Author.Needs.{needs}
-use Rattle.laws.specs.Answer.{accepted}
-use Rattle.machine.specs.Answers.{meaningAnswer}
+use Rattle.laws.specs.Answer.{accepted, refused}
+use Rattle.insn.specs.Refusals.{number}
+use Rattle.meanings.specs.Answers.{meaningAnswer}
+use Rattle.meanings.specs.Meaning.{act, meaningOf}
 use Rattle.machine.specs.Step.{stepBy}
-use Rattle.machine.proofs.Actions.{meant}
+use Rattle.meanings.proofs.Actions.{meant}
 use Rattle.machine.proofs.step_insn.Statement.{statement}
 use Rattle.machine.proofs.step_insn.Tie as tie
 
-pub step-insn-spec : {M : Type 1} → statement M
+returns : tie.Need-returns
 unfolding stepBy
+returns c =
+    let o = c .before .before .meaning .given in
+    let b = c .before .before .before .before in
+    let e : meaningOf (b .before .args .i) ≡ accepted (act (o .0 .0) (o .0 .1 .0)) = sym (b .meaning-of .ensures) ∙ ap meaningAnswer (o .1) in
+    rw e (ap accepted (c .perform .ensures), c .perform .ensures)
+
+returns-2 : tie.Need-returns-2
+unfolding stepBy
+returns-2 c =
+    let o = c .before .meaning2 .given in
+    let b = c .before .before .before in
+    let e : meaningOf (b .before .args .i) ≡ refused (number (o .0 .0)) = sym (b .meaning-of .ensures) ∙ ap meaningAnswer (o .1) in
+    rw e (refl, refl)
+
+pub step-insn-spec : {M : Type 1} → statement M
 step-insn-spec =
     tie.close
     (tie.spec
@@ -19,7 +36,5 @@ step-insn-spec =
     (λ c κs. let b = c .before .before .before in
     meant (b .before .args .i) _ _ (sym (b .meaning-of .ensures) ∙ ap meaningAnswer (c .before .meaning .given .1)) .within)
     (λ c. search needs)
-    (λ c. let b = c .before .before in
-    rw (← b .before .before .meaning-of .ensures, b .meaning .given .1) (ap accepted (c .perform .ensures), c .perform .ensures))
-    (λ c. let b = c .before in
-    rw (← b .before .before .meaning-of .ensures, b .meaning2 .given .1) (search needs)))
+    returns
+    returns-2)

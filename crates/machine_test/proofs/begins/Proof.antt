@@ -6,10 +6,10 @@ use Rattle.machine_test.proofs.begins.Statement.{statement}
 use Rattle.machine_test.proofs.begins.Tie as tie
 
 abbrev Inv-loop : tie.InvT-loop
-Inv-loop line mnemonic j₀ j = j ≤ 12
+Inv-loop line names mnemonic j₀ j = j ≤ 12
 
 abbrev μ-loop : tie.MeasureT-loop
-μ-loop line mnemonic j₀ j = 12 - j
+μ-loop line names mnemonic j₀ j = 12 - j
 
 pub begins-spec : {M : Type 1} → statement M
 begins-spec =

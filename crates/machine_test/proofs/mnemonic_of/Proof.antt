@@ -6,13 +6,13 @@ use Rattle.machine_test.proofs.mnemonic_of.Statement.{statement}
 use Rattle.machine_test.proofs.mnemonic_of.Tie as tie
 
 abbrev Inv-loop : tie.InvT-loop
-Inv-loop line m₀ m = m ≤ 346
+Inv-loop line names m₀ m = m ≤ 346
 
 abbrev μ-loop : tie.MeasureT-loop
-μ-loop line m₀ m = 346 - m
+μ-loop line names m₀ m = 346 - m
 
 pub mnemonic-of-spec : {M : Type 1} → statement M
 mnemonic-of-spec =
     tie.close
-    (tie.spec Inv-loop μ-loop (λ c. search needs) (λ c κs. search needs) (λ c. search needs) (λ c. search needs) (λ c. search needs)
+    (tie.spec Inv-loop μ-loop (λ c κs. search needs) (λ c. search needs) (λ c κs. search needs) (λ c. search needs) (λ c. search needs) (λ c. search needs)
     (λ c. search needs) (λ c. search needs))

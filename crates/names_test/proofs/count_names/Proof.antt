@@ -6,10 +6,10 @@ use Rattle.names_test.proofs.count_names.Statement.{statement}
 use Rattle.names_test.proofs.count_names.Tie as tie
 
 abbrev Inv-loop : tie.InvT-loop
-Inv-loop m₀ m = m ≤ 65535
+Inv-loop names m₀ m = m ≤ 65535
 
 abbrev μ-loop : tie.MeasureT-loop
-μ-loop m₀ m = 65535 - m
+μ-loop names m₀ m = 65535 - m
 
 pub count-names-spec : {M : Type 1} → statement M
 count-names-spec =

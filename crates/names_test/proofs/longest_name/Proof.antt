@@ -6,10 +6,10 @@ use Rattle.names_test.proofs.longest_name.Statement.{statement}
 use Rattle.names_test.proofs.longest_name.Tie as tie
 
 abbrev Inv-loop : tie.InvT-loop
-Inv-loop count longest₀ m₀ longest m = m ≤ count
+Inv-loop names count longest₀ m₀ longest m = m ≤ count
 
 abbrev μ-loop : tie.MeasureT-loop
-μ-loop count longest₀ m₀ longest m = count - m
+μ-loop names count longest₀ m₀ longest m = count - m
 
 pub longest-name-spec : {M : Type 1} → statement M
 longest-name-spec =

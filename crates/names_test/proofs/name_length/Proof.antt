@@ -6,10 +6,10 @@ use Rattle.names_test.proofs.name_length.Statement.{statement}
 use Rattle.names_test.proofs.name_length.Tie as tie
 
 abbrev Inv-loop : tie.InvT-loop
-Inv-loop m j₀ j = j ≤ 255
+Inv-loop names m j₀ j = j ≤ 255
 
 abbrev μ-loop : tie.MeasureT-loop
-μ-loop m j₀ j = 255 - j
+μ-loop names m j₀ j = 255 - j
 
 pub name-length-spec : {M : Type 1} → statement M
 name-length-spec =

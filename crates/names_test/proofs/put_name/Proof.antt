@@ -6,10 +6,10 @@ use Rattle.names_test.proofs.put_name.Statement.{statement}
 use Rattle.names_test.proofs.put_name.Tie as tie
 
 abbrev Inv-loop : tie.InvT-loop
-Inv-loop m j₀ j-end j = j ≤ j-end
+Inv-loop names m j₀ j-end j = j ≤ j-end
 
 abbrev μ-loop : tie.MeasureT-loop
-μ-loop m j₀ j-end j = j-end - j
+μ-loop names m j₀ j-end j = j-end - j
 
 pub put-name-spec : {M : Type 1} → statement M
 put-name-spec =

@@ -6,10 +6,10 @@ use Rattle.names_test.proofs.put_names.Statement.{statement}
 use Rattle.names_test.proofs.put_names.Tie as tie
 
 abbrev Inv-loop : tie.InvT-loop
-Inv-loop count m₀ t3 t4 m = m ≤ count
+Inv-loop names count m₀ t3 t4 m = m ≤ count
 
 abbrev μ-loop : tie.MeasureT-loop
-μ-loop count m₀ t3 t4 m = count - m
+μ-loop names count m₀ t3 t4 m = count - m
 
 pub put-names-spec : {M : Type 1} → statement M
 put-names-spec =

@@ -4,7 +4,7 @@ use mathlib.Core.Path.{sym, _∙_, ap}
 use native.Mathlib.Omega.{arith}
 use lib.Seq.{length-take-le}
 use borrow.Author.Needs.{needs}
-use Rattle.sheet.specs.Answers.{translationAnswer}
+use Rattle.translator.specs.Answers.{translationAnswer}
 use Rattle.sheet.proofs.Whole.{after-run, after-refusal, after-refusal-at, prefix}
 use Rattle.sheet.proofs.evaluate.Statement.{statement}
 use Rattle.sheet.proofs.evaluate.Tie as tie

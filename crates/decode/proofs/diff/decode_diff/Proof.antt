@@ -6,7 +6,7 @@ use native.Mathlib.Nat.{div-one}
 use native.Mathlib.Omega.{arith}
 use borrow.Author.Needs.{needs}
 use Rattle.tables.proofs.Known.{diff-known}
-use Rattle.tables.proofs.Widths.{flat-cell}
+use Rattle.tables.proofs.Cells.{flat-cell}
 use Rattle.tables.specs.Diff.{diffCells}
 use Rattle.decode.specs.Diff.{diffReading}
 use Rattle.decode.proofs.diff.decode_diff.Statement.{statement}

@@ -1,8 +1,8 @@
 -- `decode::diff::with_registers` meets its contract.
 -- Assumes nothing.
 use borrow.Author.Needs.{needs}
-use Rattle.tables.proofs.Known.{named, unnamed}
-use Rattle.tables.proofs.Promises.{numbersBack}
+use Rattle.names.proofs.Known.{named, unnamed}
+use Rattle.names.proofs.Promises.{numbersBack}
 use Rattle.decode.specs.Diff.{diffOf}
 use Rattle.decode.proofs.diff.with_registers.Statement.{statement}
 use Rattle.decode.proofs.diff.with_registers.Tie as tie
@@ -13,7 +13,9 @@ returns c = rw (unnamed _ (c .if1 .taken))
 
 returns-2 : tie.Need-returns-2
 unfolding diffOf
-returns-2 c = rw (named _ (c .before .if1 .left), numbersBack _ (c .before .if1 .left)) (c .with-shape .ensures)
+returns-2 c =
+    let known = c .before .before .if1 .left in
+    rw (named _ known, numbersBack _ known, ← c .before .of-shape .ensures) (c .three-registers .ensures)
 
 pub with-registers-spec : {M : Type 1} → statement M
-with-registers-spec = tie.close (tie.spec returns (λ c κs. search needs) returns-2)
+with-registers-spec = tie.close (tie.spec returns (λ c κs. search needs) (λ c κs. search needs) returns-2)

@@ -6,11 +6,12 @@ use Prim.Native.String.{String}
 use native.Mathlib.Omega.{arith}
 use lib.Text.{eqt}
 use borrow.Author.Needs.{needs}
-use Rattle.tables.proofs.Known.{named, unnamed, modimm-known}
-use Rattle.tables.proofs.Widths.{flat-cell}
+use Rattle.names.proofs.Known.{named, unnamed}
+use Rattle.tables.proofs.Known.{modimm-known}
+use Rattle.tables.proofs.Cells.{flat-cell}
 use Rattle.tables.specs.Cells.{cellAt}
 use Rattle.tables.specs.Modimm.{modimm}
-use Rattle.tables.specs.Names.{numberOf}
+use Rattle.names.specs.Names.{numberOf}
 use Rattle.decode.specs.Modimm.{modimmOf}
 use Rattle.decode.proofs.modimm.with_register.Statement.{statement}
 use Rattle.decode.proofs.modimm.with_register.Tie as tie

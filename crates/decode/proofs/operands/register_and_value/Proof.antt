@@ -11,7 +11,7 @@ returns c = one-odd _ _ _ _ _ _ (rw (c .before .odd-quad .ensures .0) at (c .if1
 
 returns-2 : tie.Need-returns-2
 unfolding two
-returns-2 c = rw (even _ _ (rw (c .before .before .odd-quad .ensures .0) at (c .before .if1 .left)), c .register .ensures)
+returns-2 c = rw (even _ _ (rw (c .before .before .before .odd-quad .ensures .0) at (c .before .before .if1 .left)), ← c .before .register .ensures) (c .record .ensures)
 
 pub register-and-value-spec : {M : Type 1} → statement M
-register-and-value-spec = tie.close (tie.spec (λ c κs. search needs) returns (λ c κs. search needs) returns-2)
+register-and-value-spec = tie.close (tie.spec (λ c κs. search needs) returns (λ c κs. search needs) (λ c κs. search needs) returns-2)

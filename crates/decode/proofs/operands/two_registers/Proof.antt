@@ -18,9 +18,9 @@ returns c = two-odd _ _ _ _ _ _ _ (rw (c .before .before .odd-quad .ensures .0, 
 returns-2 : tie.Need-returns-2
 unfolding two
 returns-2 c =
-    let a = c .before .before .before .before .before .args in
-    let sum : oddQuad (a .quad-d) (a .d) + oddQuad (a .quad-m) (a .m) ≡ 0 = rw (c .before .before .before .before .odd-quad .ensures .0, c .before .before .before .odd-quad2 .ensures .0) at (c .before .before .if1 .left) in
-    rw (even (a .quad-d) (a .d) (omega arith), even (a .quad-m) (a .m) (omega arith), c .before .register .ensures, c .register2 .ensures)
+    let a = c .before .before .before .before .before .before .args in
+    let sum : oddQuad (a .quad-d) (a .d) + oddQuad (a .quad-m) (a .m) ≡ 0 = rw (c .before .before .before .before .before .odd-quad .ensures .0, c .before .before .before .before .odd-quad2 .ensures .0) at (c .before .before .before .if1 .left) in
+    rw (even (a .quad-d) (a .d) (omega arith), even (a .quad-m) (a .m) (omega arith), ← c .before .before .register .ensures, ← c .before .register2 .ensures) (c .record .ensures)
 
 pub two-registers-spec : {M : Type 1} → statement M
-two-registers-spec = tie.close (tie.spec (λ c κs. search needs) (λ c κs. search needs) add-if1 returns (λ c κs. search needs) (λ c κs. search needs) returns-2)
+two-registers-spec = tie.close (tie.spec (λ c κs. search needs) (λ c κs. search needs) add-if1 returns (λ c κs. search needs) (λ c κs. search needs) (λ c κs. search needs) returns-2)

@@ -1,7 +1,7 @@
 -- `decode::same3::is_move` meets its contract.
 -- Assumes nothing.
 use borrow.Author.Tests.{eq-eqb, ne-eqb}
-use Rattle.tables.proofs.Known.{is-vorr}
+use Rattle.names.proofs.Known.{is-vorr}
 use Rattle.decode.proofs.same3.is_move.Statement.{statement}
 use Rattle.decode.proofs.same3.is_move.Tie as tie
 

@@ -3,8 +3,8 @@
 use mathlib.Core.Path.{sym, _∙_}
 use borrow.Author.Needs.{needs}
 use borrow.Author.Tests.{eq-eqb, ne-eqb}
-use Rattle.tables.proofs.Known.{named, unnamed, vmov-number}
-use Rattle.tables.proofs.Promises.{numbersBack}
+use Rattle.names.proofs.Known.{named, unnamed, vmov-number}
+use Rattle.names.proofs.Promises.{numbersBack}
 use Rattle.decode.specs.Same3.{same3Of}
 use Rattle.decode.proofs.same3.with_registers.Statement.{statement}
 use Rattle.decode.proofs.same3.with_registers.Tie as tie

@@ -1,5 +1,6 @@
 -- `decode::shift::with_amount` meets its contract.
 -- Assumes nothing.
+use mathlib.Core.Path.{sym, _∙_}
 use borrow.Author.Needs.{needs}
 use Rattle.decode.specs.Shift.{shifted}
 use Rattle.decode.proofs.shift.with_amount.Statement.{statement}
@@ -7,23 +8,20 @@ use Rattle.decode.proofs.shift.with_amount.Tie as tie
 
 returns : tie.Need-returns
 unfolding shifted
-returns c = rw (c .before .enum-told .given .1, ← c .before .before .before .amount-operand .ensures) (c .two-registers-and-value .ensures)
+returns c =
+    rw (sym (c .before .before .is-move .ensures) ∙ c .before .if1 .taken, ← c .before .before .before .of-class .ensures) (c .two-registers .ensures)
 
 returns-2 : tie.Need-returns-2
 unfolding shifted
-returns-2 c = rw (c .before .enum-told2 .given .1) (c .lengthened .ensures)
-
-returns-3 : tie.Need-returns-3
-unfolding shifted
-returns-3 c = rw (c .before .enum-told3 .given .1, ← c .before .before .before .amount-operand .ensures) (c .two-registers-and-value2 .ensures)
-
-returns-4 : tie.Need-returns-4
-unfolding shifted
-returns-4 c = rw (c .before .enum-told4 .given .1, ← c .before .before .before .amount-operand .ensures) (c .two-registers-and-value3 .ensures)
-
-returns-5 : tie.Need-returns-5
-unfolding shifted
-returns-5 c = rw (c .before .enum-told5 .given .1, ← c .before .before .before .amount-operand .ensures) (c .two-registers-and-value4 .ensures)
+returns-2 c =
+    rw (
+      sym (c .before .before .before .is-move .ensures) ∙ c .before .before .if1 .left,
+      ← c .before .before .before .before .of-class .ensures,
+      ← c .before .amount-operand .ensures,
+    )
+    (c .two-registers-and-value .ensures)
 
 pub with-amount-spec : {M : Type 1} → statement M
-with-amount-spec = tie.close (tie.spec (λ c κs. search needs) (λ c. search needs) (λ c κs. search needs) (λ c. search needs) (λ c κs. search needs) (λ c. search needs) (λ c κs. search needs) (λ c. search needs) (λ c κs. search needs) (λ c. search needs) (λ c κs. search needs) returns returns-2 returns-3 returns-4 returns-5)
+with-amount-spec =
+    tie.close
+    (tie.spec (λ c κs. search needs) (λ c κs. search needs) (λ c κs. search needs) returns (λ c κs. search needs) (λ c κs. search needs) returns-2)

@@ -6,10 +6,11 @@ use Prim.Native.String.{String}
 use native.Mathlib.Omega.{arith}
 use lib.Text.{eqt}
 use borrow.Author.Needs.{needs}
-use Rattle.tables.proofs.Known.{named, unnamed, shift-known}
-use Rattle.tables.proofs.Widths.{flat-cell}
+use Rattle.names.proofs.Known.{named, unnamed}
+use Rattle.tables.proofs.Known.{shift-known}
+use Rattle.tables.proofs.Cells.{flat-cell}
 use Rattle.tables.specs.Cells.{cellAt}
-use Rattle.tables.specs.Names.{numberOf}
+use Rattle.names.specs.Names.{numberOf}
 use Rattle.tables.specs.Shift.{shiftCells, vmovl}
 use Rattle.decode.specs.Shift.{shiftOf}
 use Rattle.decode.proofs.shift.with_class.Statement.{statement}

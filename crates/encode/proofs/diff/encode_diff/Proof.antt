@@ -14,17 +14,17 @@ returns-2 : tie.Need-returns-2
 unfolding diffShaped
 returns-2 c =
     let b = c .before .before .before .before in
-    rw (eq-eqb _ _ (b .before .before .if1 .left), ← b .before .shape .ensures, ← b .shaped .ensures, c .before .before .registers .given .1)
+    rw (eq-eqb _ _ (b .before .before .before .if1 .left), ← b .before .before .shape .ensures, ← b .before .of-shape .ensures, ← b .registers .ensures, c .before .before .found .given .1)
     (c .diff-pair .ensures)
 
 returns-3 : tie.Need-returns-3
 unfolding diffShaped
 returns-3 c =
     let b = c .before .before .before in
-    rw (eq-eqb _ _ (b .before .before .if1 .left), ← b .before .shape .ensures, ← b .shaped .ensures, c .before .registers2 .given .1)
+    rw (eq-eqb _ _ (b .before .before .before .if1 .left), ← b .before .before .shape .ensures, ← b .before .of-shape .ensures, ← b .registers .ensures, c .before .found2 .given .1)
 
 pub encode-diff-spec : {M : Type 1} → statement M
 encode-diff-spec =
     tie.close
-    (tie.spec returns (λ c κs. search needs) (λ c κs. search needs) (λ c. search needs) (λ c κs. search needs) (λ c. search needs)
+    (tie.spec returns (λ c κs. search needs) (λ c κs. search needs) (λ c κs. search needs) (λ c. search needs) (λ c κs. search needs) (λ c. search needs)
     returns-2 returns-3)

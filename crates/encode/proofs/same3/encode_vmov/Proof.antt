@@ -2,7 +2,7 @@
 -- Assumes nothing.
 use borrow.Author.Needs.{needs}
 use borrow.Author.Tests.{eq-eqb, ne-eqb}
-use Rattle.tables.specs.Names.{names, nameOf}
+use Rattle.names.specs.Names.{names, nameOf}
 use Rattle.encode.specs.Same3.{vmovWriting}
 use Rattle.encode.proofs.same3.encode_vmov.Statement.{statement}
 use Rattle.encode.proofs.same3.encode_vmov.Tie as tie

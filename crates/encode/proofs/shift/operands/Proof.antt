@@ -7,12 +7,10 @@ use Rattle.encode.proofs.shift.operands.Tie as tie
 returns : tie.Need-returns
 returns c =
     let b = c .before .before in
-    let d = b .before .before in
-    rw (← d .before .quad-d .ensures, ← b .before .quad-m .ensures, ← d .register .ensures, ← b .register2 .ensures, ← c .before .amount .ensures)
+    rw (← b .before .before .of-class .ensures, ← b .before .register .ensures, ← b .register2 .ensures, ← c .before .amount .ensures)
     (c .all-three .ensures)
 
 pub operands-spec : {M : Type 1} → statement M
 operands-spec =
     tie.close
-    (tie.spec (λ c κs. search needs) (λ c κs. search needs) (λ c κs. search needs) (λ c κs. search needs) (λ c κs. search needs)
-    (λ c κs. search needs) returns)
+    (tie.spec (λ c κs. search needs) (λ c κs. search needs) (λ c κs. search needs) (λ c κs. search needs) (λ c κs. search needs) returns)

@@ -1,24 +1,24 @@
 -- `immediates::shift::shift_code` meets its contract.
 -- Assumes nothing.
 use Rattle.laws.proofs.Tests.{tests}
-use Rattle.immediates.specs.Shifts.{codeOf}
+use Rattle.immediates.specs.Shifts.{sizeCode}
 use Rattle.immediates.proofs.shift.shift_code.Statement.{statement}
 use Rattle.immediates.proofs.shift.shift_code.Tie as tie
 
 returns : tie.Need-returns
-unfolding codeOf
+unfolding sizeCode
 returns c = search tests
 
 returns-2 : tie.Need-returns-2
-unfolding codeOf
+unfolding sizeCode
 returns-2 c = search tests
 
 returns-3 : tie.Need-returns-3
-unfolding codeOf
+unfolding sizeCode
 returns-3 c = search tests
 
 returns-4 : tie.Need-returns-4
-unfolding codeOf
+unfolding sizeCode
 returns-4 c = search tests
 
 pub shift-code-spec : {M : Type 1} → statement M

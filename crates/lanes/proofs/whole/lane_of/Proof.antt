@@ -4,7 +4,7 @@ use native.Mathlib.Nat.{mod-lt}
 use native.Mathlib.Omega.{arith}
 use lib.Pow.{pow-pos, le-ones}
 use borrow.Author.Needs.{needs}
-use Rattle.lanes.specs.Lane.{modulo}
+use Rattle.laws.specs.Signed.{modulo}
 use Rattle.lanes.proofs.Words.{not-negative, negative}
 use Rattle.lanes.proofs.whole.lane_of.Statement.{statement}
 use Rattle.lanes.proofs.whole.lane_of.Tie as tie

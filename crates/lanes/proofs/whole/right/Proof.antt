@@ -8,8 +8,9 @@ use lib.Signed.{shrZ}
 use mir.Syntax.{w64}
 use mir.Val.{toZ, ofZ}
 use borrow.Author.Needs.{needs}
-use Rattle.lanes.specs.Lane.{readAs, modulo}
-use Rattle.lanes.specs.declared.Sign.the-variants.{Signed}
+use Rattle.lanes.specs.Lane.{readAs}
+use Rattle.laws.specs.Signed.{modulo}
+use Rattle.insn.specs.declared.Sign.the-variants.{Signed}
 use Rattle.lanes.proofs.Numbers.{shr-out}
 use Rattle.lanes.proofs.Signs.{right-u, shr-far}
 use Rattle.lanes.proofs.Words.{lane-fits, shift-is}

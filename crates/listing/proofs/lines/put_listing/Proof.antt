@@ -3,15 +3,15 @@
 use mathlib.Core.Path.{sym, _∙_}
 use native.Mathlib.Omega.{arith}
 use borrow.Author.Needs.{needs}
-use Rattle.tables.specs.Names.{codes}
-use Rattle.listing.specs.Listing.{lines, text}
-use Rattle.listing.proofs.Sets.{then, widen}
+use Rattle.names.specs.Names.{codes}
+use Rattle.listing.specs.Listing.{lines, endedLines}
+use Rattle.laws.proofs.Placed.{then, widen}
 use Rattle.listing.proofs.Whole.{listable}
 use Rattle.listing.proofs.lines.put_listing.Statement.{statement}
 use Rattle.listing.proofs.lines.put_listing.Tie as tie
 
 pub put-listing-spec : {M : Type 1} → statement M
-unfolding lines text codes
+unfolding lines endedLines codes
 put-listing-spec =
     tie.close
     (tie.spec

@@ -2,9 +2,9 @@
 -- Assumes nothing.
 use native.Mathlib.Omega.{arith}
 use borrow.Author.Needs.{needs}
-use Rattle.tables.specs.Names.{codes}
+use Rattle.names.specs.Names.{codes}
 use Rattle.listing.specs.Listing.{readingText}
-use Rattle.listing.proofs.Sets.{then, widen}
+use Rattle.laws.proofs.Placed.{then, widen}
 use Rattle.listing.proofs.lines.put_reading.Statement.{statement}
 use Rattle.listing.proofs.lines.put_reading.Tie as tie
 
@@ -13,15 +13,16 @@ unfolding readingText codes
 put-reading-spec =
     tie.close
     (tie.spec
-    (λ c. search needs)
-    (λ c κs. search needs)
-    (λ c. search needs)
-    (λ c κs. search needs)
-    (λ c κs. search needs)
     (λ c κs. search needs)
     (λ c. search needs)
     (λ c κs. search needs)
     (λ c. search needs)
-    (λ c. rw (c .before .before .before .before .before .x .given .1) (c .before .before .put-insn .ensures))
+    (λ c κs. search needs)
+    (λ c κs. search needs)
+    (λ c κs. search needs)
     (λ c. search needs)
-    (λ c. rw (c .before .before .before .before .before .before .before .before .before .before .before .before .before .before .x2 .given .1, ← c .before .before .before .refusal-number .ensures) (widen (omega arith) (then (then (c .before .before .before .before .before .before .before .before .before .before .before .put-word .ensures) (c .before .before .before .before .before .before .before .put-word2 .ensures)) (c .before .before .put-five .ensures)))))
+    (λ c κs. search needs)
+    (λ c. search needs)
+    (λ c. rw (← c .before .before .before .before .before .before .before .read .ensures, c .before .before .before .before .before .x .given .1) (c .before .before .put-insn .ensures))
+    (λ c. search needs)
+    (λ c. rw (← c .before .before .before .before .before .before .before .before .before .before .before .before .before .before .before .before .read .ensures, c .before .before .before .before .before .before .before .before .before .before .before .before .before .before .x2 .given .1, ← c .before .before .before .refusal-number .ensures) (widen (omega arith) (then (then (c .before .before .before .before .before .before .before .before .before .before .before .put-word .ensures) (c .before .before .before .before .before .before .before .put-word2 .ensures)) (c .before .before .put-five .ensures)))))

@@ -9,7 +9,7 @@ use Rattle.laws.specs.Answer.{accepted, refused}
 use Rattle.insn.specs.Refusals.{number}
 use Rattle.machine.specs.Run.{after, runPairs}
 use Rattle.machine.specs.Step.{stepPair}
-use Rattle.machine.proofs.Runs.{after-none, halts, ended, spent, stops, turned}
+use Rattle.machine.proofs.AnyRuns.{after-none, halts, ended, spent, stops, turned}
 use Rattle.machine.proofs.run.go.Statement.{statement}
 use Rattle.machine.proofs.run.go.Tie as tie
 
@@ -33,7 +33,7 @@ returns c =
     let l = b .loop in
     let a = b .before .before .args in
     halts _ (a .budget - l .left) (c .halted .ensures) (omega arith)
-    (spent (a .code .now) (l .at) (l .f) (l .left) (omega arith) (omega arith)) (l .inv .2)
+    (spent stepPair (a .code .now) (l .at) (l .f) (l .left) (omega arith) (omega arith)) (l .inv .2)
 
 returns-2 : tie.Need-returns-2 Inv-loop μ-loop
 returns-2 c =
@@ -45,7 +45,7 @@ returns-2 c =
     let e : stepPair (getD (a .code .now) (2 * l .at) 0) (getD (a .code .now) (2 * l .at + 1) 0) (l .f) ≡ refused (number (o .0 .0)) =
     sym (s .step .ensures .0) ∙ rw (o .1) in
     halts _ (a .budget - l .left) (c .halted2 .ensures) (omega arith)
-    (stops (a .code .now) (l .at) (l .f) (l .left) (number (o .0 .0)) (omega arith) (omega arith) e) (l .inv .2)
+    (stops stepPair (a .code .now) (l .at) (l .f) (l .left) (number (o .0 .0)) (omega arith) (omega arith) e) (l .inv .2)
 
 loop-again : tie.Need-loop-again Inv-loop μ-loop
 loop-again c =
@@ -57,7 +57,7 @@ loop-again c =
     sym (s .step .ensures .0) ∙ rw (c .before .enum-told .given .1) in (
       omega arith,
       omega arith,
-      turned (a .code .now) (l .at) (l .f) (l .left) (a .budget) (s .step .result .file) (omega arith) (omega arith) (omega arith) e
+      turned stepPair (a .code .now) (l .at) (l .f) (l .left) (a .budget) (s .step .result .file) (omega arith) (omega arith) (omega arith) e
           ∙ l .inv .2,
     )
 
@@ -67,7 +67,7 @@ returns-3 c =
     let l = b .loop in
     let a = b .before .before .args in
     halts _ (a .budget - l .left) (c .halted3 .ensures) (omega arith)
-    (ended (a .code .now) (l .at) (l .f) (l .left) (omega arith) (omega arith)) (l .inv .2)
+    (ended stepPair (a .code .now) (l .at) (l .f) (l .left) (omega arith) (omega arith)) (l .inv .2)
 
 pub go-spec : {M : Type 1} → statement M
 go-spec =

@@ -7,25 +7,27 @@ use lib.ListN.{drop}
 use borrow.Author.Needs.{needs}
 use Rattle.laws.specs.Answer.{accepted}
 use Rattle.machine.specs.Answers.{ranOf}
-use Rattle.machine.specs.Run.{Run, runPairs, steps}
-use Rattle.machine.proofs.Runs.{odd-code, other-file, past-end, runs, counted}
+use Rattle.machine.specs.Run.{Run, runPairs, stepsBy, machineSteps}
+use Rattle.machine.specs.Step.{stepPair}
+use Rattle.machine.proofs.AnyRuns.{counted}
+use Rattle.machine.proofs.Runs.{odd-code, other-file, past-end, runs}
 use Rattle.machine.proofs.run.run.Statement.{statement}
 use Rattle.machine.proofs.run.run.Tie as tie
 
 returns : tie.Need-returns
-unfolding steps
+unfolding stepsBy
 returns c =
     let a = c .before .before .before .args in
     (sym (odd-code (a .code .now) (a .start) (a .file .now) (a .budget) (c .if1 .taken)), refl)
 
 returns-2 : tie.Need-returns-2
-unfolding steps
+unfolding stepsBy
 returns-2 c =
     let a = c .before .before .before .before .args in
     (sym (other-file (a .code .now) (a .start) (a .file .now) (a .budget) (omega arith) (c .if2 .taken)), refl)
 
 returns-3 : tie.Need-returns-3
-unfolding steps
+unfolding stepsBy
 returns-3 c =
     let a = c .before .before .before .before .before .args in
     (sym (past-end (a .code .now) (a .start) (a .file .now) (a .budget) (omega arith) (omega arith) (omega arith)), refl)
@@ -39,8 +41,8 @@ returns-4 c =
     let e : ranOf (g .go .result .ran) (s .store .last .0) ≡ runPairs (drop (2 * a .start) (a .code .now)) (a .budget) (a .file .now) =
     rw k (g .go .ensures ∙ ap (runPairs (drop (2 * a .start) (a .code .now)) (a .budget)) (g .before .load .ensures)) in (
       e ∙ sym (runs (a .code .now) (a .start) (a .file .now) (a .budget) (omega arith) (omega arith) (omega arith)),
-      subst (λ (r : Run). steps (r .executed) (drop (2 * a .start) (a .code .now)) (a .file .now) ≡ accepted (r .file)) (sym e)
-          (counted (drop (2 * a .start) (a .code .now)) (a .budget) (a .file .now)),
+      subst (λ (r : Run). machineSteps (r .executed) (drop (2 * a .start) (a .code .now)) (a .file .now) ≡ accepted (r .file)) (sym e)
+          (counted stepPair (drop (2 * a .start) (a .code .now)) (a .budget) (a .file .now)),
     )
 
 pub run-spec : {M : Type 1} → statement M

@@ -1,20 +1,19 @@
 -- `tables::modimm::cell` meets its contract: the array is the table's numbers, which antt computes.
 -- Assumes nothing.
-use Prim.Native.Nat.{_/_, _%_}
+use Prim.Native.Nat.{ℕ, _/_, _%_}
 use native.Mathlib.Omega.{arith}
 use borrow.Author.Needs.{needs}
-use Rattle.laws.proofs.Tables.{mapped-rows}
+use Rattle.laws.proofs.Range.{values}
+use Rattle.names.specs.Names.{names, numberOf}
 use Rattle.tables.specs.Modimm.{modimm}
-use Rattle.tables.specs.Names.{names, numberOf}
-use Rattle.tables.proofs.Widths.{modimm-width, past}
+use Rattle.tables.proofs.Cells.{cell16, past}
+use Rattle.tables.proofs.Listed.{listed}
 use Rattle.tables.proofs.modimm.cell.Statement.{statement}
 use Rattle.tables.proofs.modimm.cell.Tie as tie
 
 returns : tie.Need-returns
-unfolding modimm names numberOf
-returns c =
-    let k = c .before .before .args .k in
-    mapped-rows numberOf modimm "" 0 (k / 16) (k % 16) (omega arith) (omega (arith, modimm-width (k / 16) (omega arith)))
+unfolding values modimm names numberOf
+returns c = listed (λ (k : ℕ). numberOf (cell16 modimm k)) 16 2 (c .before .before .args .k) 0 (omega arith) (omega arith) (omega arith)
 
 returns-2 : tie.Need-returns-2
 unfolding modimm

@@ -1,20 +1,19 @@
 -- `tables::shift::vmovl_cell` meets its contract: the array is the table's numbers, which antt computes.
 -- Assumes nothing.
-use Prim.Native.Nat.{_/_, _%_}
+use Prim.Native.Nat.{ℕ, _/_, _%_}
 use native.Mathlib.Omega.{arith}
 use borrow.Author.Needs.{needs}
-use Rattle.laws.proofs.Tables.{mapped-rows}
-use Rattle.tables.specs.Names.{names, numberOf}
+use Rattle.laws.proofs.Range.{values}
+use Rattle.names.specs.Names.{names, numberOf}
 use Rattle.tables.specs.Shift.{vmovl}
-use Rattle.tables.proofs.Widths.{vmovl-width, past}
+use Rattle.tables.proofs.Cells.{cell4, past}
+use Rattle.tables.proofs.Listed.{listed}
 use Rattle.tables.proofs.shift.vmovl_cell.Statement.{statement}
 use Rattle.tables.proofs.shift.vmovl_cell.Tie as tie
 
 returns : tie.Need-returns
-unfolding vmovl names numberOf
-returns c =
-    let k = c .before .before .args .k in
-    mapped-rows numberOf vmovl "" 0 (k / 4) (k % 4) (omega arith) (omega (arith, vmovl-width (k / 4) (omega arith)))
+unfolding values vmovl names numberOf
+returns c = listed (λ (k : ℕ). numberOf (cell4 vmovl k)) 4 2 (c .before .before .args .k) 0 (omega arith) (omega arith) (omega arith)
 
 returns-2 : tie.Need-returns-2
 unfolding vmovl

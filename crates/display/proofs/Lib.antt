@@ -1,0 +1,4 @@
+pub mod Short
+pub mod Names
+pub mod Endings
+pub mod Registers

@@ -1,0 +1,13 @@
+-- `display::name::advance` meets its contract.
+-- Assumes nothing.
+use native.Mathlib.Omega.{arith}
+use borrow.Author.Tests.{eq-eqb, ne-eqb}
+use Rattle.display.proofs.name.advance.Statement.{statement}
+use Rattle.display.proofs.name.advance.Tie as tie
+
+pub advance-spec : {M : Type 1} → statement M
+advance-spec =
+    tie.close
+    (tie.spec
+    (λ c. (simp (eq-eqb _ _ (c .if1 .taken)), omega arith))
+    (λ c. (simp (ne-eqb _ _ (c .if1 .left)), omega arith)))

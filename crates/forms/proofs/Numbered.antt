@@ -1,0 +1,138 @@
+-- The form of each mnemonic by its number, which antt computes once from the table of names.
+-- Assumes nothing.
+use mathlib.Core.Path.{_≡_, refl, sym, ap, _∙_}
+use mathlib.Core.Bool.{Bool, true, false}
+use mathlib.Core.List.{List, [], _∷_}
+use Prim.Native.Nat.{ℕ, suc, _+_, _<_, _≤_}
+use native.Mathlib.Omega.{arith}
+use lib.Dec.{ltb}
+use lib.ListN.{length, getD, List·getD-eq-default}
+use borrow.Author.Tests.{ltb-true, ltb-false}
+use Rattle.laws.proofs.Range.{values, agree, agree-from}
+use Rattle.names.specs.Names.{names, nameOf}
+use Rattle.names.proofs.Spellings.{no-name}
+use Rattle.lanes.specs.declared.LaneOp.the-variants.{Add, Sub, Mul, Mla, Mls, Max, Min, Cgt, Cge, Ceq, Tst}
+use Rattle.insn.specs.declared.Sign.the-variants.{Unsigned, Signed}
+use Rattle.insn.specs.declared.Width.the-variants.{B8, B16, B32, B64}
+use Rattle.operations.specs.declared.BitOp.the-variants.{And, Orr, Eor, Bic, Orn, Bsl, Bit, Bif}
+use Rattle.operations.specs.declared.ConstantOp.the-variants as constant
+use Rattle.forms.specs.declared.Direction.the-variants.{Left, Right}
+use Rattle.forms.specs.declared.Form.{Form}
+use Rattle.forms.specs.declared.Form.the-variants.{Lanes, Bits, Copy, Shift, Number, Float, Nothing}
+use Rattle.forms.specs.Forms.{groups, namedForms, formOf}
+
+unfoldable pub numbered : List Form
+numbered =
+    Nothing ∷ Nothing ∷ Nothing ∷ Nothing ∷ Nothing ∷ Nothing ∷ Nothing ∷ Nothing ∷ Nothing ∷ Nothing ∷  -- 0
+    Bits And ∷ Bits Bic ∷ Bits Orr ∷ Bits Orn ∷  -- 10
+    Nothing ∷ Nothing ∷ Nothing ∷ Nothing ∷ Nothing ∷ Nothing ∷ Nothing ∷  -- 14
+    Lanes (Cgt Signed) B8 ∷ Lanes (Cgt Signed) B16 ∷ Lanes (Cgt Signed) B32 ∷  -- 21
+    Lanes (Cge Signed) B8 ∷ Lanes (Cge Signed) B16 ∷ Lanes (Cge Signed) B32 ∷  -- 24
+    Nothing ∷ Nothing ∷ Nothing ∷ Nothing ∷ Nothing ∷ Nothing ∷ Nothing ∷ Nothing ∷ Nothing ∷ Nothing ∷ Nothing ∷ Nothing ∷  -- 27
+    Nothing ∷ Nothing ∷ Nothing ∷ Nothing ∷  -- 39
+    Lanes (Max Signed) B8 ∷ Lanes (Max Signed) B16 ∷ Lanes (Max Signed) B32 ∷  -- 43
+    Lanes (Min Signed) B8 ∷ Lanes (Min Signed) B16 ∷ Lanes (Min Signed) B32 ∷  -- 46
+    Nothing ∷ Nothing ∷ Nothing ∷ Nothing ∷ Nothing ∷ Nothing ∷  -- 49
+    Lanes Add B8 ∷ Lanes Add B16 ∷ Lanes Add B32 ∷ Lanes Add B64 ∷  -- 55
+    Lanes Tst B8 ∷ Lanes Tst B16 ∷ Lanes Tst B32 ∷  -- 59
+    Lanes Mla B8 ∷ Lanes Mla B16 ∷ Lanes Mla B32 ∷  -- 62
+    Lanes Mul B8 ∷ Lanes Mul B16 ∷ Lanes Mul B32 ∷  -- 65
+    Nothing ∷ Nothing ∷ Nothing ∷ Nothing ∷ Nothing ∷ Nothing ∷ Nothing ∷ Nothing ∷ Nothing ∷ Nothing ∷ Nothing ∷ Nothing ∷  -- 68
+    Nothing ∷ Nothing ∷ Nothing ∷ Nothing ∷ Nothing ∷ Nothing ∷ Nothing ∷ Nothing ∷ Nothing ∷ Nothing ∷ Nothing ∷ Nothing ∷  -- 80
+    Nothing ∷ Nothing ∷ Nothing ∷ Nothing ∷ Nothing ∷ Nothing ∷ Nothing ∷ Nothing ∷  -- 92
+    Bits Eor ∷ Bits Bsl ∷ Bits Bit ∷ Bits Bif ∷  -- 100
+    Nothing ∷ Nothing ∷ Nothing ∷ Nothing ∷ Nothing ∷ Nothing ∷ Nothing ∷  -- 104
+    Lanes (Cgt Unsigned) B8 ∷ Lanes (Cgt Unsigned) B16 ∷ Lanes (Cgt Unsigned) B32 ∷  -- 111
+    Lanes (Cge Unsigned) B8 ∷ Lanes (Cge Unsigned) B16 ∷ Lanes (Cge Unsigned) B32 ∷  -- 114
+    Nothing ∷ Nothing ∷ Nothing ∷ Nothing ∷ Nothing ∷ Nothing ∷ Nothing ∷ Nothing ∷ Nothing ∷ Nothing ∷ Nothing ∷ Nothing ∷  -- 117
+    Nothing ∷ Nothing ∷ Nothing ∷ Nothing ∷  -- 129
+    Lanes (Max Unsigned) B8 ∷ Lanes (Max Unsigned) B16 ∷ Lanes (Max Unsigned) B32 ∷  -- 133
+    Lanes (Min Unsigned) B8 ∷ Lanes (Min Unsigned) B16 ∷ Lanes (Min Unsigned) B32 ∷  -- 136
+    Nothing ∷ Nothing ∷ Nothing ∷ Nothing ∷ Nothing ∷ Nothing ∷  -- 139
+    Lanes Sub B8 ∷ Lanes Sub B16 ∷ Lanes Sub B32 ∷ Lanes Sub B64 ∷  -- 145
+    Lanes Ceq B8 ∷ Lanes Ceq B16 ∷ Lanes Ceq B32 ∷  -- 149
+    Lanes Mls B8 ∷ Lanes Mls B16 ∷ Lanes Mls B32 ∷  -- 152
+    Nothing ∷ Nothing ∷ Nothing ∷ Nothing ∷ Nothing ∷ Nothing ∷ Nothing ∷ Nothing ∷ Nothing ∷ Nothing ∷ Nothing ∷ Nothing ∷  -- 155
+    Nothing ∷ Nothing ∷ Nothing ∷ Nothing ∷ Nothing ∷ Nothing ∷  -- 167
+    Shift (Right Signed) B8 ∷ Shift (Right Signed) B16 ∷ Shift (Right Signed) B32 ∷ Shift (Right Signed) B64 ∷  -- 173
+    Nothing ∷ Nothing ∷ Nothing ∷ Nothing ∷ Nothing ∷ Nothing ∷ Nothing ∷ Nothing ∷ Nothing ∷ Nothing ∷ Nothing ∷ Nothing ∷  -- 177
+    Shift Left B8 ∷ Shift Left B16 ∷ Shift Left B32 ∷ Shift Left B64 ∷  -- 189
+    Nothing ∷ Nothing ∷ Nothing ∷ Nothing ∷ Nothing ∷ Nothing ∷ Nothing ∷ Nothing ∷ Nothing ∷ Nothing ∷ Nothing ∷ Nothing ∷  -- 193
+    Nothing ∷ Nothing ∷ Nothing ∷ Nothing ∷ Nothing ∷  -- 205
+    Shift (Right Unsigned) B8 ∷ Shift (Right Unsigned) B16 ∷ Shift (Right Unsigned) B32 ∷ Shift (Right Unsigned) B64 ∷  -- 210
+    Nothing ∷ Nothing ∷ Nothing ∷ Nothing ∷ Nothing ∷ Nothing ∷ Nothing ∷ Nothing ∷ Nothing ∷ Nothing ∷ Nothing ∷ Nothing ∷  -- 214
+    Nothing ∷ Nothing ∷ Nothing ∷ Nothing ∷ Nothing ∷ Nothing ∷ Nothing ∷ Nothing ∷ Nothing ∷ Nothing ∷ Nothing ∷ Nothing ∷  -- 226
+    Nothing ∷ Nothing ∷ Nothing ∷ Nothing ∷ Nothing ∷ Nothing ∷ Nothing ∷ Nothing ∷ Nothing ∷ Nothing ∷ Nothing ∷ Nothing ∷  -- 238
+    Nothing ∷ Nothing ∷ Nothing ∷ Nothing ∷ Nothing ∷ Nothing ∷ Nothing ∷ Nothing ∷ Nothing ∷ Nothing ∷ Nothing ∷  -- 250
+    Number constant.Mov B32 ∷  -- 261
+    Number constant.Orr B32 ∷  -- 262
+    Number constant.Mov B16 ∷  -- 263
+    Number constant.Orr B16 ∷  -- 264
+    Number constant.Mov B8 ∷  -- 265
+    Float ∷  -- 266
+    Number constant.Mvn B32 ∷  -- 267
+    Number constant.Bic B32 ∷  -- 268
+    Number constant.Mvn B16 ∷  -- 269
+    Number constant.Bic B16 ∷  -- 270
+    Number constant.Mov B64 ∷  -- 271
+    Nothing ∷ Nothing ∷ Nothing ∷ Nothing ∷ Nothing ∷ Nothing ∷ Nothing ∷ Nothing ∷ Nothing ∷ Nothing ∷ Nothing ∷ Nothing ∷  -- 272
+    Nothing ∷ Nothing ∷ Nothing ∷ Nothing ∷ Nothing ∷ Nothing ∷ Nothing ∷ Nothing ∷ Nothing ∷ Nothing ∷ Nothing ∷ Nothing ∷  -- 284
+    Nothing ∷ Nothing ∷ Nothing ∷ Nothing ∷ Nothing ∷ Nothing ∷ Nothing ∷ Nothing ∷ Nothing ∷ Nothing ∷ Nothing ∷ Nothing ∷  -- 296
+    Nothing ∷ Nothing ∷ Nothing ∷ Nothing ∷ Nothing ∷ Nothing ∷ Nothing ∷ Nothing ∷ Nothing ∷ Nothing ∷ Nothing ∷ Nothing ∷  -- 308
+    Nothing ∷ Nothing ∷ Nothing ∷ Nothing ∷ Nothing ∷ Nothing ∷ Nothing ∷ Nothing ∷ Nothing ∷ Nothing ∷ Nothing ∷ Nothing ∷  -- 320
+    Nothing ∷ Nothing ∷ Nothing ∷ Nothing ∷ Nothing ∷ Nothing ∷ Nothing ∷ Nothing ∷ Nothing ∷ Nothing ∷ Nothing ∷ Nothing ∷  -- 332
+    Nothing ∷  -- 344
+    Copy ∷  -- 345
+    []
+
+unfoldable pub formAt : ℕ → Form
+formAt m = getD numbered m Nothing
+
+computed : (m : ℕ) → m < 346 → formOf (nameOf m) ≡ formAt m
+unfolding values names nameOf groups namedForms formOf numbered formAt
+computed = agree (λ (m : ℕ). formOf (nameOf m)) formAt 346 refl
+
+pub blank : formOf "" ≡ Nothing
+unfolding groups namedForms formOf
+blank = refl
+
+size : length numbered ≡ 346
+unfolding numbered
+size = refl
+
+past : (m : ℕ) → 346 ≤ m → formAt m ≡ Nothing
+unfolding formAt
+past m h = List·getD-eq-default numbered Nothing (rw size h)
+
+-- the form of a mnemonic number, also of one that is none
+pub form-at : (m : ℕ) → formOf (nameOf m) ≡ formAt m
+form-at m = go (ltb m 346) refl
+  where
+    go : (b : Bool) → ltb m 346 ≡ b → formOf (nameOf m) ≡ formAt m
+    go true e = computed m (ltb-true m 346 e)
+    go false e = let h = ltb-false m 346 e in ap formOf (no-name m h) ∙ blank ∙ sym (past m h)
+
+-- a stretch of n mnemonics from lo on
+pub stretch : (f : ℕ → Form) (lo n : ℕ) → values f lo n ≡ values formAt lo n
+    → {m : ℕ} → lo ≤ m → m < lo + n → f m ≡ formOf (nameOf m)
+stretch f lo n e {m} h k = agree-from f formAt lo n e m h k ∙ sym (form-at m)
+
+-- one mnemonic
+pub one : {f : Form} (k : ℕ) → f ≡ formAt k → {m : ℕ} → m ≡ k → f ≡ formOf (nameOf m)
+one k e {m} h = e ∙ ap formAt (sym h) ∙ sym (form-at m)
+
+-- a number from n on that is not n
+pub above : {n m : ℕ} → n ≤ m → (m ≡ n → ⊥) → suc n ≤ m
+above h k = omega arith
+
+-- the names from 272 on have none, but the last
+rest : (m : ℕ) → 272 ≤ m → m < 345 → Nothing ≡ formOf (nameOf m)
+unfolding values numbered formAt
+rest m h k = stretch (λ (m : ℕ). Nothing) 272 73 refl h k
+
+pub no-more : (m : ℕ) → 272 ≤ m → (m ≡ 345 → ⊥) → Nothing ≡ formOf (nameOf m)
+no-more m h k = go (ltb m 345) refl
+  where
+    go : (b : Bool) → ltb m 345 ≡ b → Nothing ≡ formOf (nameOf m)
+    go true e = rest m h (ltb-true m 345 e)
+    go false e = let l = ltb-false m 345 e in sym (form-at m ∙ past m (omega arith))

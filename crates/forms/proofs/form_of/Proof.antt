@@ -1,0 +1,27 @@
+-- `forms::form_of` meets its contract.
+-- Assumes nothing.
+use mathlib.Core.Path.{refl}
+use borrow.Author.Needs.{needs}
+use Rattle.forms.specs.declared.Form.the-variants.{Copy}
+use Rattle.forms.proofs.Numbered.{numbered, formAt, one, no-more}
+use Rattle.forms.proofs.form_of.Statement.{statement}
+use Rattle.forms.proofs.form_of.Tie as tie
+
+last : tie.Need-returns-5
+unfolding numbered formAt
+last c = one {f = Copy} 345 refl (c .if5 .taken)
+
+pub form-of-spec : {M : Type 1} → statement M
+form-of-spec =
+    tie.close
+    (tie.spec
+    (λ c κs. search needs)
+    (λ c. search needs)
+    (λ c κs. search needs)
+    (λ c. search needs)
+    (λ c κs. search needs)
+    (λ c. search needs)
+    (λ c κs. search needs)
+    (λ c. search needs)
+    last
+    (λ c. no-more _ (c .before .if4 .left) (c .if5 .left)))

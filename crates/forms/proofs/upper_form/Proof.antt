@@ -1,0 +1,43 @@
+-- `forms::upper_form` meets its contract: antt computes each stretch of mnemonics.
+-- Assumes nothing.
+use mathlib.Core.Path.{refl, _∙_}
+use Prim.Native.Nat.{ℕ, _-_}
+use native.Mathlib.Omega.{arith}
+use Rattle.laws.proofs.Range.{values}
+use Rattle.lanes.specs.declared.LaneOp.the-variants.{Sub, Mls, Max, Min, Cgt, Cge, Ceq}
+use Rattle.insn.specs.declared.Sign.the-variants.{Unsigned}
+use Rattle.insn.specs.Widths.{widthAt}
+use Rattle.forms.specs.declared.Form.the-variants.{Lanes, Bits, Nothing}
+use Rattle.operations.specs.declared.BitOp.the-variants.{Eor}
+use Rattle.forms.proofs.Numbered.{numbered, formAt, one, stretch, above}
+use Rattle.forms.proofs.upper_form.Statement.{statement}
+use Rattle.forms.proofs.upper_form.Tie as tie
+
+pub upper-form-spec : {M : Type 1} → statement M
+unfolding values numbered formAt
+upper-form-spec =
+    tie.close
+    (tie.spec
+    (λ c κs. tt)
+    (λ c κs. tt)
+    (λ c κs. tt)
+    (λ c κs. tt)
+    (λ c κs. tt)
+    (λ c κs. tt)
+    (λ c κs. tt)
+    (λ c. one 101 refl (c .match .keys1))
+    (λ c. one 102 refl (c .match .keys2))
+    (λ c. one 103 refl (c .match .keys3))
+    (λ c. stretch (λ (m : ℕ). Bits Eor) 100 1 refl (c .before .before .before .pre .0) (c .if2 .taken))
+    (λ c. let r = c .before .before .before .match .rest in
+    stretch (λ (m : ℕ). Nothing) 104 7 refl (above (above (above (c .before .if2 .left) (r .0 .0 .1)) (r .0 .1)) (r .1)) (c .if3 .taken))
+    (λ c. c .lanes-at .ensures ∙ stretch (λ (m : ℕ). Lanes (Cgt Unsigned) (widthAt (m - 111))) 111 3 refl (c .before .before .if3 .left) (c .before .if4 .taken))
+    (λ c. c .lanes-at2 .ensures ∙ stretch (λ (m : ℕ). Lanes (Cge Unsigned) (widthAt (m - 114))) 114 3 refl (c .before .before .if4 .left) (c .before .if5 .taken))
+    (λ c. stretch (λ (m : ℕ). Nothing) 117 16 refl (c .before .if5 .left) (c .if6 .taken))
+    (λ c. c .lanes-at3 .ensures ∙ stretch (λ (m : ℕ). Lanes (Max Unsigned) (widthAt (m - 133))) 133 3 refl (c .before .if6 .left) (c .before .before .before .before .before .before .if1 .taken))
+    (λ c. c .lanes-at4 .ensures ∙ stretch (λ (m : ℕ). Lanes (Min Unsigned) (widthAt (m - 136))) 136 3 refl (c .before .before .if1 .left) (c .before .if7 .taken))
+    (λ c. stretch (λ (m : ℕ). Nothing) 139 6 refl (c .before .if7 .left) (c .if8 .taken))
+    (λ c. c .lanes-at5 .ensures ∙ stretch (λ (m : ℕ). Lanes Sub (widthAt (m - 145))) 145 4 refl (c .before .before .if8 .left) (c .before .if9 .taken))
+    (λ c. c .lanes-at6 .ensures ∙ stretch (λ (m : ℕ). Lanes Ceq (widthAt (m - 149))) 149 3 refl (c .before .before .if9 .left) (c .before .if10 .taken))
+    (λ c. c .lanes-at7 .ensures ∙ stretch (λ (m : ℕ). Lanes Mls (widthAt (m - 152))) 152 3 refl (c .before .before .if10 .left) (c .before .if11 .taken))
+    (λ c. stretch (λ (m : ℕ). Nothing) 155 18 refl (c .if11 .left) (omega arith)))

@@ -1,0 +1,84 @@
+-- The names that have a meaning: document 01, 'Register machine'. Every other name has none.
+-- Assumes nothing.
+use mathlib.Core.List.{List, [], _∷_, _++_}
+use Prim.Native.String.{String}
+use lib.Text.{eqt}
+use Rattle.laws.specs.Choice.{choose}
+use Rattle.lanes.specs.declared.LaneOp.the-variants.{Add, Sub, Mul, Mla, Mls, Max, Min, Cgt, Cge, Ceq, Tst}
+use Rattle.insn.specs.declared.Sign.the-variants.{Unsigned, Signed}
+use Rattle.insn.specs.declared.Width.{Width}
+use Rattle.insn.specs.declared.Width.the-variants.{B8, B16, B32, B64}
+use Rattle.operations.specs.declared.BitOp.the-variants.{And, Orr, Eor, Bic, Orn, Bsl, Bit, Bif}
+use Rattle.operations.specs.declared.ConstantOp.the-variants as constant
+use Rattle.forms.specs.declared.Direction.the-variants.{Left, Right}
+use Rattle.forms.specs.declared.Form.{Form}
+use Rattle.forms.specs.declared.Form.the-variants.{Lanes, Bits, Copy, Shift, Number, Float, Nothing}
+
+-- a name and its form
+pub record NamedForm : Type 0 where
+  pub name : String
+  pub form : Form
+
+abbrev only : String → Form → List NamedForm
+only s f = record { name = s; form = f } ∷ []
+
+-- one form at each width, 8 to 32 bits, or 8 to 64
+abbrev to32 : (Width → Form) → String → String → String → List NamedForm
+to32 f a b c = only a (f B8) ++ (only b (f B16) ++ only c (f B32))
+
+abbrev to64 : (Width → Form) → String → String → String → String → List NamedForm
+to64 f a b c d = to32 f a b c ++ only d (f B64)
+
+unfoldable pub groups : List (List NamedForm)
+groups =
+    only "vand" (Bits And) ∷
+    only "vorr" (Bits Orr) ∷
+    only "veor" (Bits Eor) ∷
+    only "vbic" (Bits Bic) ∷
+    only "vorn" (Bits Orn) ∷
+    only "vbsl" (Bits Bsl) ∷
+    only "vbit" (Bits Bit) ∷
+    only "vbif" (Bits Bif) ∷
+    only "vmov" Copy ∷
+    to64 (Lanes Add) "vadd.i8" "vadd.i16" "vadd.i32" "vadd.i64" ∷
+    to64 (Lanes Sub) "vsub.i8" "vsub.i16" "vsub.i32" "vsub.i64" ∷
+    to32 (Lanes Mul) "vmul.i8" "vmul.i16" "vmul.i32" ∷
+    to32 (Lanes Mla) "vmla.i8" "vmla.i16" "vmla.i32" ∷
+    to32 (Lanes Mls) "vmls.i8" "vmls.i16" "vmls.i32" ∷
+    to32 (Lanes (Max Signed)) "vmax.s8" "vmax.s16" "vmax.s32" ∷
+    to32 (Lanes (Max Unsigned)) "vmax.u8" "vmax.u16" "vmax.u32" ∷
+    to32 (Lanes (Min Signed)) "vmin.s8" "vmin.s16" "vmin.s32" ∷
+    to32 (Lanes (Min Unsigned)) "vmin.u8" "vmin.u16" "vmin.u32" ∷
+    to32 (Lanes (Cgt Signed)) "vcgt.s8" "vcgt.s16" "vcgt.s32" ∷
+    to32 (Lanes (Cgt Unsigned)) "vcgt.u8" "vcgt.u16" "vcgt.u32" ∷
+    to32 (Lanes (Cge Signed)) "vcge.s8" "vcge.s16" "vcge.s32" ∷
+    to32 (Lanes (Cge Unsigned)) "vcge.u8" "vcge.u16" "vcge.u32" ∷
+    to32 (Lanes Ceq) "vceq.i8" "vceq.i16" "vceq.i32" ∷
+    to32 (Lanes Tst) "vtst.8" "vtst.16" "vtst.32" ∷
+    to64 (Shift Left) "vshl.i8" "vshl.i16" "vshl.i32" "vshl.i64" ∷
+    to64 (Shift (Right Unsigned)) "vshr.u8" "vshr.u16" "vshr.u32" "vshr.u64" ∷
+    to64 (Shift (Right Signed)) "vshr.s8" "vshr.s16" "vshr.s32" "vshr.s64" ∷
+    to64 (Number constant.Mov) "vmov.i8" "vmov.i16" "vmov.i32" "vmov.i64" ∷
+    only "vmvn.i16" (Number constant.Mvn B16) ∷
+    only "vmvn.i32" (Number constant.Mvn B32) ∷
+    only "vorr.i16" (Number constant.Orr B16) ∷
+    only "vorr.i32" (Number constant.Orr B32) ∷
+    only "vbic.i16" (Number constant.Bic B16) ∷
+    only "vbic.i32" (Number constant.Bic B32) ∷
+    only "vmov.f32" Float ∷
+    []
+
+abbrev joined : List (List NamedForm) → List NamedForm
+joined [] = []
+joined (g ∷ gs) = g ++ joined gs
+
+unfoldable pub namedForms : List NamedForm
+namedForms = joined groups
+
+abbrev pub formIn : String → List NamedForm → Form
+formIn s [] = Nothing
+formIn s (x ∷ xs) = let rest = formIn s xs in choose (eqt (x .name) s) (x .form) rest
+
+-- the form of a name
+unfoldable pub formOf : String → Form
+formOf s = formIn s namedForms

@@ -1,0 +1,94 @@
+-- The meaning of a record: an operation and its registers. The address and the mark do not matter.
+-- A record that is unlike its name's form in count, kinds, register range or D/Q mix has no meaning, which is refusal 10.
+-- Assumes nothing.
+use mathlib.Core.Bool.{Bool, Bool·beq}
+use Prim.Native.Nat.{ℕ, _/_, _%_, _^_}
+use lib.Dec.{eqb, leb}
+use Rattle.laws.specs.Answer.{Answer, accepted, refused, andThen}
+use Rattle.laws.specs.Choice.{choose}
+use Rattle.insn.specs.declared.Insn.{Insn}
+use Rattle.insn.specs.declared.Operand.{Operand}
+use Rattle.insn.specs.Record.{valueOr}
+use Rattle.names.specs.Names.{nameOf}
+use Rattle.laws.specs.Search.{Found, at, none}
+use Rattle.fields.specs.Registers.{Bits, bits, vecBits}
+use Rattle.immediates.specs.Floats.{floatBits}
+use Rattle.immediates.specs.Found.{findFloat}
+use Rattle.immediates.specs.Modified.{copies}
+use Rattle.laws.specs.Signed.{modulo}
+use Rattle.insn.specs.Widths.{bitsOf}
+use Rattle.lanes.specs.declared.LaneOp.{LaneOp}
+use Rattle.lanes.specs.declared.LaneOp.the-variants.{Shl, Shr}
+use Rattle.insn.specs.declared.Width.{Width}
+use Rattle.operations.specs.declared.BitOp.the-variants.{Mov}
+use Rattle.operations.specs.declared.ConstantOp.the-variants as constant
+use Rattle.operations.specs.declared.Operation.{Operation}
+use Rattle.operations.specs.declared.Operation.the-variants.{Lanes, Bits as Bitwise, Constant}
+use Rattle.forms.specs.declared.Direction.{Direction}
+use Rattle.forms.specs.declared.Direction.the-variants.{Left, Right}
+use Rattle.forms.specs.declared.Form.{Form}
+use Rattle.forms.specs.declared.Form.the-variants as form
+use Rattle.meanings.specs.declared.Registers.{Registers}
+use Rattle.forms.specs.Forms.{formOf}
+
+-- an operation on registers
+pub data Act : Type 0 where
+  act : Operation → Registers → Act
+
+abbrev pub registers : Bool → ℕ → ℕ → ℕ → Registers
+registers quad d n m = record { quad = quad; d = d; n = n; m = m }
+
+-- three registers of one size
+unfoldable pub acting : Operation → Answer Bits → Answer Bits → Answer Bits → Answer Act
+acting op (accepted (bits p d)) (accepted (bits q n)) (accepted (bits r m)) =
+    choose (Bool·beq p q) (choose (Bool·beq p r) (accepted (act op (registers p d n m))) (refused 10)) (refused 10)
+acting op (accepted (bits p d)) (accepted (bits q n)) (refused x) = refused 10
+acting op (accepted (bits p d)) (refused x) c = refused 10
+acting op (refused x) b c = refused 10
+
+abbrev pub on : Operation → Operand → Operand → Operand → Answer Act
+on op a b c = acting op (vecBits a) (vecBits b) (vecBits c)
+
+-- the 64 bits of a whole number
+unfoldable pub wholePattern : Operand → Answer ℕ
+wholePattern o = valueOr (λ v. accepted (modulo 64 v)) (λ x. refused 10) (refused 10) o
+
+-- the single-precision pattern of a float that a pair carries, twice
+abbrev pub patternAt : Found → Answer ℕ
+patternAt (at b) = accepted (copies 2 32 (floatBits b))
+patternAt none = refused 10
+
+unfoldable pub floatPattern : Operand → Answer ℕ
+floatPattern o = valueOr (λ v. refused 10) (λ x. patternAt (findFloat x)) (refused 10) o
+
+-- the lowest bits of p, as many as the width has, in every element of 64 bits
+unfoldable pub repeated : Width → ℕ → ℕ
+repeated w p = copies (64 / bitsOf w) (bitsOf w) (p % 2 ^ bitsOf w)
+
+abbrev pub shiftBy : Direction → ℕ → LaneOp
+shiftBy Left k = Shl k
+shiftBy (Right s) k = Shr s k
+
+-- How many operands a form has, and what they are: a is the target, b and c are sources. An amount is at most 64, for every width.
+abbrev pub countOf : Form → ℕ
+countOf (form.Lanes op w) = 3
+countOf (form.Bits op) = 3
+countOf form.Copy = 2
+countOf (form.Shift way w) = 3
+countOf (form.Number op w) = 2
+countOf form.Float = 2
+countOf form.Nothing = 0
+
+unfoldable pub meaningIn : Form → Operand → Operand → Operand → Answer Act
+meaningIn (form.Lanes op w) a b c = on (Lanes op w) a b c
+meaningIn (form.Bits op) a b c = on (Bitwise op) a b c
+meaningIn form.Copy a b c = on (Bitwise Mov) a b b
+meaningIn (form.Shift way w) a b c = andThen (wholePattern c) (λ k. choose (leb k 64) (on (Lanes (shiftBy way k) w) a b b) (refused 10))
+meaningIn (form.Number op w) a b c = andThen (wholePattern b) (λ p. on (Constant op (repeated w p)) a a a)
+meaningIn form.Float a b c = andThen (floatPattern b) (λ p. on (Constant constant.Mov p) a a a)
+meaningIn form.Nothing a b c = refused 10
+
+unfoldable pub meaningOf : Insn → Answer Act
+meaningOf i =
+    let f = formOf (nameOf (i .mnemonic)) in
+    choose (eqb (i .count) (countOf f)) (meaningIn f (i .first) (i .second) (i .third)) (refused 10)

@@ -1,0 +1,117 @@
+-- The numbers that a sheet's pairs carry: each amount and each byte has a place in its pair.
+-- Assumes nothing.
+use mathlib.Core.Path.{_≡_, refl, sym, _∙_, subst}
+use mathlib.Core.Bool.{Bool, true, false}
+use mathlib.Core.Logic.{_≢_}
+use Prim.Native.Nat.{ℕ, zero, suc, _+_, _-_, _*_, _^_, _<_, _≤_}
+use Prim.Native.String.{String}
+use native.Mathlib.Omega.{arith}
+use lib.Dec.{T, eqb, ltb}
+use lib.IntN.{pos}
+use lib.Text.{eqt}
+use borrow.Author.Tests.{lt-ltb, ltb-true, ne-eqb}
+use Rattle.laws.specs.Answer.{accepted}
+use Rattle.laws.specs.Choice.{choose}
+use Rattle.laws.specs.Search.{Found, at, none, firstBelow}
+use Rattle.laws.specs.Signed.{twosComplement}
+use Rattle.laws.proofs.Range.{values, agree, agree2}
+use Rattle.laws.proofs.Search.{all-fail}
+use Rattle.insn.specs.declared.Operand.the-variants.{Imm}
+use Rattle.tables.specs.Modimm.{modimm}
+use Rattle.tables.specs.declared.ShiftClass.the-variants.{Right, Left}
+use Rattle.fields.specs.Halfwords.{bit, field}
+use Rattle.immediates.specs.Modified.{constantAt, element, operandIn, needsNonzero}
+use Rattle.immediates.specs.Shifts.{isEscape, rightEnd, leftStart, sizeCode}
+use Rattle.decode.specs.Shift.{forbidden, columnOf}
+use Rattle.values.specs.Numbers.{orNine}
+use Rattle.values.specs.Immediates as modified
+use Rattle.values.specs.Immediates.{immediateIn}
+use Rattle.values.specs.Amounts as shift
+use Rattle.values.specs.Amounts.{amountIn}
+use Rattle.insn.specs.Widths.{bitsAt}
+
+-- a search that one number passes finds a number
+finds : (p : ℕ → Bool) (n t : ℕ) → t < n → p t ≡ true → (u : ℕ) × (orNine (firstBelow n p) ≡ accepted u)
+finds p n t h e = go (firstBelow n p) refl
+  where
+    go : (f : Found) → firstBelow n p ≡ f → (u : ℕ) × (orNine f ≡ accepted u)
+    go (at u) k = (u, refl)
+    go none k = absurd (subst T (sym e ∙ all-fail p n k t h) tt)
+
+-- a left amount below w stands at w + amount
+abbrev leftAt : ℕ → ℕ → Bool
+leftAt c k = choose (ltb k (bitsAt c)) (shift.amountReads Left c (pos k) (bit 6 (bitsAt c + k)) (field 5 0 (bitsAt c + k))) true
+
+left-read : (c k : ℕ) → c < 4 → k < 64 → leftAt c k ≡ true
+unfolding values shift.amountReads forbidden columnOf isEscape sizeCode rightEnd leftStart
+left-read = agree2 leftAt (λ (c k : ℕ). true) 4 64 refl
+
+-- the lanes of a width code have at most 64 bitsAt
+pub bits-small : (c : ℕ) → c < 4 → bitsAt c ≤ 64
+unfolding values
+bits-small c h = let e = agree (λ (c : ℕ). ltb (bitsAt c) 65) (λ (c : ℕ). true) 4 refl c h in omega (arith, ltb-true (bitsAt c) 65 e)
+
+pub left-carried : (c k : ℕ) → c < 4 → k < bitsAt c → (t : ℕ) × (amountIn Left c (Imm (pos k)) ≡ accepted t)
+unfolding amountIn
+left-carried c k hc hk =
+    let small = bits-small c hc in
+    finds (λ (t : ℕ). shift.amountReads Left c (pos k) (bit 6 t) (field 5 0 t)) 128 (bitsAt c + k) (omega arith)
+    (rw (lt-ltb k (bitsAt c) hk) at (left-read c k hc (omega arith)))
+
+-- a right amount from 1 to w stands at 2w - amount
+abbrev rightAt : ℕ → ℕ → Bool
+rightAt c k = choose (ltb k (bitsAt c)) (shift.amountReads Right c (pos (suc k)) (bit 6 (2 * bitsAt c - suc k)) (field 5 0 (2 * bitsAt c - suc k))) true
+
+right-read : (c k : ℕ) → c < 4 → k < 64 → rightAt c k ≡ true
+unfolding values shift.amountReads forbidden columnOf isEscape sizeCode rightEnd leftStart
+right-read = agree2 rightAt (λ (c k : ℕ). true) 4 64 refl
+
+pub right-carried : (c k : ℕ) → c < 4 → 0 < k → k ≤ bitsAt c → (t : ℕ) × (amountIn Right c (Imm (pos k)) ≡ accepted t)
+unfolding amountIn
+right-carried c zero hc p hk = absurd (let b : ⊥ = omega arith in b)
+right-carried c (suc k) hc p hk =
+    let small = bits-small c hc in
+    finds (λ (t : ℕ). shift.amountReads Right c (pos (suc k)) (bit 6 t) (field 5 0 t)) 128 (2 * bitsAt c - suc k) (omega arith)
+    (rw (lt-ltb k (bitsAt c) hk) at (right-read c k hc (omega arith)))
+
+-- an immediate that one place carries
+module _ (name : String) (v t : ℕ) (integer : eqt name "vmov.f32" ≡ false) (h : t < 8192)
+    (reads : modified.immediateReads name (Imm (pos v)) (bit 12 t) (field 11 8 t) (field 7 0 t) ≡ true) where
+  number-carried : (u : ℕ) × (immediateIn name (Imm (pos v)) ≡ accepted u)
+  unfolding immediateIn
+  number-carried =
+      let f = finds (λ (t : ℕ). modified.immediateReads name (Imm (pos v)) (bit 12 t) (field 11 8 t) (field 7 0 t)) 8192 t h reads in
+      (f .0, rw integer (f .1))
+
+-- VMOV.I32 of a byte stands at op 0, cmode 0000
+abbrev setAt : ℕ → Bool
+setAt b = modified.immediateReads "vmov.i32" (Imm (pos b)) (bit 12 b) (field 11 8 b) (field 7 0 b)
+
+set-read : (b : ℕ) → b < 256 → setAt b ≡ true
+unfolding values modified.immediateReads modimm constantAt element operandIn needsNonzero
+set-read = agree setAt (λ (b : ℕ). true) 256 refl
+
+pub set-carried : (b : ℕ) → b < 256 → (t : ℕ) × (immediateIn "vmov.i32" (Imm (pos b)) ≡ accepted t)
+set-carried b h = number-carried "vmov.i32" b b refl (omega arith) (set-read b h)
+
+-- VORR.I32 of a byte at bitsAt 8k, not 0, stands at op 0, cmode 0kk1
+abbrev joinPlace : ℕ → ℕ → ℕ
+joinPlace k b = (2 * k + 1) * 256 + b
+
+abbrev joinAt : ℕ → ℕ → Bool
+joinAt k b =
+    choose (eqb b 0) true
+    (modified.immediateReads "vorr.i32" (Imm (pos (b * 2 ^ (8 * k)))) (bit 12 (joinPlace k b)) (field 11 8 (joinPlace k b)) (field 7 0 (joinPlace k b)))
+
+join-read : (k b : ℕ) → k < 4 → b < 256 → joinAt k b ≡ true
+unfolding values modified.immediateReads modimm constantAt element operandIn needsNonzero
+join-read = agree2 joinAt (λ (k b : ℕ). true) 4 256 refl
+
+pub join-carried : (k b : ℕ) → k < 4 → b < 256 → b ≢ 0 → (t : ℕ) × (immediateIn "vorr.i32" (Imm (pos (b * 2 ^ (8 * k)))) ≡ accepted t)
+join-carried k b hk hb n =
+    number-carried "vorr.i32" (b * 2 ^ (8 * k)) (joinPlace k b) refl (omega arith) (rw (ne-eqb b 0 n) at (join-read k b hk hb))
+
+-- VMOV.I64 of the mask stands at op 1, cmode 1110
+pub mask-carried : (t : ℕ) × (immediateIn "vmov.i64" (Imm (pos 4294967295)) ≡ accepted t)
+unfolding modified.immediateReads modimm constantAt element operandIn needsNonzero twosComplement
+mask-carried = number-carried "vmov.i64" 4294967295 7695 refl (omega arith) refl

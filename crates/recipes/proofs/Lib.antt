@@ -1,0 +1,5 @@
+pub mod ByKind
+pub mod Carried
+pub mod Halves
+pub mod Names
+pub mod Writes

@@ -1,0 +1,4 @@
+pub mod Promises
+pub mod Puts
+pub mod Stepping
+pub mod Translations

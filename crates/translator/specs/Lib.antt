@@ -1,0 +1,4 @@
+pub mod Translation
+pub mod Answers
+pub mod Promises
+pub mod Own

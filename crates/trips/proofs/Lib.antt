@@ -1,0 +1,11 @@
+pub mod Canonical
+pub mod Held
+pub mod Promises
+pub mod Registers
+pub mod RoundDiff
+pub mod RoundModimm
+pub mod RoundSame3
+pub mod RoundShift
+pub mod Routing
+pub mod ShiftForth
+pub mod ShiftRows

@@ -1,0 +1,4 @@
+pub mod Amounts
+pub mod Immediates
+pub mod Promises
+pub mod Tests
