@@ -1,4 +1,4 @@
-//! Our side: the static library's two C functions, as include/bodlixo.h has them.
+//! Our side: the static library's C functions for sheets, as include/bodlixo.h has them.
 
 #[link(name = "capi", kind = "static")]
 extern "C" {
@@ -11,6 +11,17 @@ extern "C" {
         file_len: usize,
         budget: u64,
         executed: *mut u64,
+    ) -> u32;
+    fn bodlixo_evaluate(
+        sheet: *const u8,
+        len: usize,
+        out: *mut u16,
+        out_len: usize,
+        file: *mut u64,
+        file_len: usize,
+        budget: u64,
+        executed: *mut u64,
+        at: *mut u64,
     ) -> u32;
 }
 
@@ -34,4 +45,15 @@ pub fn run(code: &[u16], start: u64, file: &mut [u64], budget: u64) -> (u32, u64
         bodlixo_run(code, halfwords, start, file, words, budget, &mut executed)
     };
     (answer, executed)
+}
+
+/// The answer's number, the pair count or the index, and the pairs executed.
+pub fn evaluate(sheet: &[u8], out: &mut [u16], file: &mut [u64], budget: u64) -> (u32, u64, u64) {
+    let (mut at, mut executed) = (UNSET, UNSET);
+    let (bytes, halfwords, words) = (sheet.len(), out.len(), file.len());
+    let answer = unsafe {
+        let (sheet, out, file) = (sheet.as_ptr(), out.as_mut_ptr(), file.as_mut_ptr());
+        bodlixo_evaluate(sheet, bytes, out, halfwords, file, words, budget, &mut executed, &mut at)
+    };
+    (answer, at, executed)
 }

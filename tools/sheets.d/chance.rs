@@ -1,6 +1,7 @@
 //! Random steps, sheets and files; every run has the same ones.
 
-use crate::model::{uses, Step, STEP};
+use crate::model::uses;
+use crate::step::{Step, STEP};
 
 /// A stream of numbers that look random (splitmix64).
 pub struct Chance(pub u64);

@@ -1,11 +1,13 @@
 //! Sheets translated and run on both sides, and everything that comes back compared.
 
+use crate::answers::{self, LONGEST};
 use crate::boundary;
 use crate::chance::{sheet_of, Chance};
 use crate::counts::Counts;
-use crate::model::{self, uses, Step, LONGEST, STEP};
+use crate::model::{self, uses};
 use crate::pairs::{code_of, Pair};
 use crate::report::Report;
+use crate::step::{steps_of, Step, STEP};
 use std::process::ExitCode;
 
 /// Halfwords after the output that nobody may touch.
@@ -31,6 +33,7 @@ const REFUSED: [([u16; 2], u32); 12] = [
 struct Compared {
     report: Report,
     counts: Counts,
+    evaluations: u64,
 }
 
 pub fn compare(count: usize) -> ExitCode {
@@ -66,12 +69,13 @@ impl Compared {
             wrong_length(chance, &mut sheet);
         }
         self.translated(chance, &sheet);
+        self.evaluated(&sheet);
     }
 
     /// One byte replaced.
     fn damaged(&mut self, chance: &mut Chance, steps: &[Step], sheet: &mut [u8]) {
         let (at, byte) = chance.damage(sheet);
-        if let Err((13, _)) = model::translation(sheet, usize::MAX) {
+        if let Err((13, _)) = answers::translation(sheet, usize::MAX) {
             self.counts.add("refused for the byte", byte as u64);
             self.counts.saw("kinds and bytes refused", &[steps[at].kind, byte as u8]);
             self.counts.saw("kinds, bytes and values refused", &[steps[at].kind, byte as u8, sheet[STEP * at + byte]]);
@@ -80,14 +84,14 @@ impl Compared {
 
     /// A sheet translated into an output of some length; then its runs.
     fn translated(&mut self, chance: &mut Chance, sheet: &[u8]) {
-        let need = match model::translation(sheet, usize::MAX) {
+        let need = match answers::translation(sheet, usize::MAX) {
             Ok(pairs) => 2 * pairs.len(),
             Err(_) => chance.below(64),
         };
         let room = room(chance, need);
         let mut out: Vec<u16> = (0..room + BEYOND).map(|_| chance.word() as u16).collect();
         let mut due_out = out.clone();
-        let due = model::translation(sheet, room);
+        let due = answers::translation(sheet, room);
         let answer = match &due {
             Ok(pairs) => (0, pairs.len() as u64),
             Err(refusal) => *refusal,
@@ -104,9 +108,36 @@ impl Compared {
         }
         if let Ok(pairs) = due {
             self.counts.add("halfwords left over (9: more)", (room - need).min(9) as u64);
-            self.covered(&model::steps_of(sheet));
-            self.runs(chance, &model::steps_of(sheet), &pairs, &out[..2 * pairs.len()]);
+            self.covered(&steps_of(sheet));
+            self.runs(chance, &steps_of(sheet), &pairs, &out[..2 * pairs.len()]);
         }
+    }
+
+    /// The sheet translated and run by one call. Its chances are its own, so that it changes no other case.
+    fn evaluated(&mut self, sheet: &[u8]) {
+        self.evaluations += 1;
+        let mut chance = Chance(self.evaluations << 32);
+        let n = answers::translation(sheet, usize::MAX).map_or(0, |pairs| pairs.len());
+        let room = room(&mut chance, 2 * n);
+        let budget = chance.one(&[n, n, n, n + 1, n / 2, n.saturating_sub(1), 0, usize::MAX]) as u64;
+        let words = chance.one(&[32, 32, 32, 32, 32, 32, 32, 31, 33, 0]);
+        let file: Vec<u64> = (0..words).map(|_| chance.doubleword()).collect();
+        let mut left = file.clone();
+        let mut out: Vec<u16> = (0..room + BEYOND).map(|_| chance.word() as u16).collect();
+        let mut due_out = out.clone();
+        if let Ok(pairs) = answers::translation(sheet, room) {
+            due_out[..2 * n].copy_from_slice(&code_of(&pairs));
+        }
+        let due = answers::evaluation(sheet, room, &file, budget);
+        let (answer, at, executed) = boundary::evaluate(sheet, &mut out[..room], &mut left, budget);
+        let case = || format!("evaluation of {sheet:x?} into {room} with {budget} on {file:x?}");
+        self.report.expect((answer, at, executed, &left), (due.0, due.1, due.2, &due.3), case);
+        self.report.expect(&out, &due_out, || format!("output of the evaluation of {sheet:x?} in {room}"));
+        if let (0, Ok(file), Ok(left)) = (due.0, <&[u64; 32]>::try_from(&file[..]), <&[u64; 32]>::try_from(&left[..])) {
+            let rows = model::meaning(&steps_of(sheet), model::rows_of(file));
+            self.report.expect(model::rows_of(left), rows, || format!("rows of the evaluation of {sheet:x?}"));
+        }
+        self.counts.add("evaluation answers", due.0.into());
     }
 
     /// The steps of a translated sheet, counted.
@@ -121,7 +152,7 @@ impl Compared {
                 self.counts.saw("shifts with width, sign and amount", &[kind, width, sign, amount]);
             }
             if kind == 0 {
-                let pairs = |half| model::translation(&constant(half), usize::MAX).map_or(0, |p| p.len() - 1);
+                let pairs = |half| answers::translation(&constant(half), usize::MAX).map_or(0, |p| p.len() - 1);
                 self.counts.add("constant halves of pairs", pairs(low) as u64);
                 self.counts.add("constant halves of pairs", pairs(high) as u64);
             }
@@ -156,14 +187,14 @@ impl Compared {
         let n = pairs.len() as u64;
         let file = chance.file();
         let budget = chance.one(&[n, n, n + 1, u64::MAX, n + 1000]);
-        let left = self.run(code, 0, &file, budget, model::run(pairs, 0, &file, budget));
+        let left = self.run(code, 0, &file, budget, answers::run(pairs, 0, &file, budget));
         let rows = model::meaning(steps, model::rows_of(&file));
         self.report.expect(model::rows_of(&left), rows, || format!("rows of {steps:x?} on {file:x?}"));
         self.counts.add("whole runs, budget beyond the need (9: more)", (budget - n).min(9));
         if n > 0 {
             let any = chance.below(pairs.len()) as u64;
             let budget = chance.one(&[0, 1.min(n - 1), n - 1, any, any]);
-            let middle = self.run(code, 0, &file, budget, model::run(pairs, 0, &file, budget));
+            let middle = self.run(code, 0, &file, budget, answers::run(pairs, 0, &file, budget));
             let rest = chance.one(&[n - budget, n, u64::MAX]);
             let end = self.run(code, budget, &middle, rest, (0, n - budget, left));
             self.report.expect(model::rows_of(&end), rows, || format!("rows gone on to, {steps:x?}"));
@@ -184,7 +215,7 @@ impl Compared {
         let any = chance.below(pairs.len() + 1) as u64;
         let start = chance.one(&[any, any, any, n, n + 1, 2 * n + 1, u64::MAX, 1 << 63]);
         let budget = chance.one(&[0, n.saturating_sub(start), n, u64::MAX]);
-        self.run(code, start, file, budget, model::run(pairs, start, file, budget));
+        self.run(code, start, file, budget, answers::run(pairs, start, file, budget));
         let place = if start == 0 { 0 } else { 1 + u64::from(start >= n) + u64::from(start > n) };
         self.counts.add("runs from a start (0 at 0, 1 inside, 2 the end, 3 past it)", place);
     }
@@ -219,7 +250,7 @@ impl Compared {
         let at = chance.below(pairs.len() + 1);
         let code = [&code[..2 * at], &pair, &code[2 * at..]].concat();
         let budget = chance.one(&[0, at as u64, at as u64 + 1, u64::MAX]);
-        let (_, executed, left) = model::run(&pairs[..at], 0, file, budget);
+        let (_, executed, left) = answers::run(&pairs[..at], 0, file, budget);
         let answer = if budget > at as u64 { number } else { 15 };
         self.run(&code, 0, file, budget, (answer, executed, left));
     }

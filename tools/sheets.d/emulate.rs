@@ -4,12 +4,13 @@ use crate::boundary;
 use crate::chance::{sheet_of, Chance};
 use crate::model;
 use crate::report::Report;
+use crate::step::Step;
 use std::io::Write;
 use std::process::{Command, ExitCode, Stdio};
 use std::thread;
 
 struct Program {
-    steps: Vec<model::Step>,
+    steps: Vec<Step>,
     code: Vec<u16>,
     file: [u64; 32],
 }

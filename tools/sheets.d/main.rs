@@ -1,5 +1,6 @@
 //! Sum sheets by a model of document 01 beside ours; tools/sheets says what the words do.
 
+mod answers;
 mod boundary;
 mod chance;
 mod compare;
@@ -11,6 +12,7 @@ mod pairs;
 mod report;
 mod sample;
 mod speed;
+mod step;
 
 use std::process::ExitCode;
 

@@ -1,7 +1,7 @@
 //! The pairs that document 01 has written for each step: their halfwords by the manual (A7-9, A7-12,
-//! A7-15) and their effect on the file by the document's register machine.
+//! A7-15) and their effect on the file by the document's register machine. It knows no row's meaning.
 
-use crate::model::Step;
+use crate::step::Step;
 
 #[derive(Clone, Copy, Debug)]
 pub enum Op {

@@ -1,9 +1,11 @@
 //! The sample that crates/sheet_test replays: the document's edges, then random sheets. Two lines a case; the model
 //! gives the answers.
 
+use crate::answers;
 use crate::chance::{sheet_of, Chance};
-use crate::model::{self, uses, Step, STEP};
+use crate::model::uses;
 use crate::pairs::code_of;
+use crate::step::{Step, STEP};
 use std::process::ExitCode;
 
 /// What every halfword of the replay's output is before the translation, and how many it has.
@@ -66,16 +68,16 @@ impl Sample {
     }
 
     fn case_on(&mut self, sheet: &[u8], how: How, file: [u64; 32]) -> [u64; 32] {
-        let pairs = model::translation(sheet, usize::MAX).map_or(0, |pairs| pairs.len());
+        let pairs = answers::translation(sheet, usize::MAX).map_or(0, |pairs| pairs.len());
         let room = how.room.unwrap_or(2 * pairs);
         let budget = how.budget.unwrap_or(pairs as u64);
         let words = how.file.unwrap_or(32);
         let mut out = [BEFORE; HALFWORDS];
-        let (answer, index, executed, left) = match model::translation(sheet, room) {
+        let (answer, index, executed, left) = match answers::translation(sheet, room) {
             Err((answer, index)) => (answer, index, 0, file),
             Ok(pairs) => {
                 out[..2 * pairs.len()].copy_from_slice(&code_of(&pairs));
-                let ran = model::run(&pairs, how.start, &file, budget);
+                let ran = answers::run(&pairs, how.start, &file, budget);
                 let (answer, executed, left) = if words == 32 { ran } else { (11, 0, file) };
                 (answer, 0, executed, left)
             }
@@ -171,7 +173,7 @@ impl Sample {
     fn short(&mut self) {
         for kind in 0..15 {
             let mut sheet = sheet_of(&[self.chance.step(kind)]);
-            let need = model::translation(&sheet, usize::MAX).map_or(0, |pairs| 2 * pairs.len());
+            let need = answers::translation(&sheet, usize::MAX).map_or(0, |pairs| 2 * pairs.len());
             for room in [need - 1, need + 1] {
                 self.case(&sheet, How { room: Some(room), ..How::default() });
             }
@@ -184,7 +186,7 @@ impl Sample {
     fn endings(&mut self) {
         for _ in 0..6 {
             let sheet = sheet_of(&self.chance.steps(4));
-            let n = model::translation(&sheet, usize::MAX).map_or(0, |pairs| pairs.len()) as u64;
+            let n = answers::translation(&sheet, usize::MAX).map_or(0, |pairs| pairs.len()) as u64;
             let room = Some(2 * n as usize + 3);
             let how = How { room, ..How::default() };
             for budget in [0, n / 2, n - 1] {

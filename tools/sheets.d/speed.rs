@@ -1,10 +1,11 @@
 //! How fast sheets are translated and their pairs run, by the number of steps; beside it the model, which is plain
 //! Rust and whose run has the pairs read already. All measurements take turns.
 
+use crate::answers;
 use crate::boundary;
 use crate::chance::{sheet_of, Chance};
-use crate::model::{self, Step};
 use crate::pairs::{code_of, Pair};
+use crate::step::Step;
 use std::hint::black_box;
 use std::process::ExitCode;
 use std::time::Instant;
@@ -26,7 +27,7 @@ struct Sheet {
 impl Sheet {
     fn new(what: &'static str, steps: &[Step]) -> Sheet {
         let sheet = sheet_of(steps);
-        let pairs = model::translation(&sheet, usize::MAX).expect("a sheet that keeps the rules");
+        let pairs = answers::translation(&sheet, usize::MAX).expect("a sheet that keeps the rules");
         let code = code_of(&pairs);
         Sheet { what, steps: steps.len(), sheet, pairs, code }
     }
@@ -40,14 +41,14 @@ impl Sheet {
             black_box(boundary::translate(black_box(&self.sheet), &mut out));
         });
         let theirs = timed(times, || {
-            let pairs = model::translation(black_box(&self.sheet), self.code.len());
+            let pairs = answers::translation(black_box(&self.sheet), self.code.len());
             black_box(pairs.map(|pairs| code_of(&pairs)).is_ok());
         });
         let run = timed(times, || {
             black_box(boundary::run(black_box(&self.code), 0, &mut file, u64::MAX));
         });
         let interpreted = timed(times, || {
-            file = black_box(model::run(black_box(&self.pairs), 0, &file, u64::MAX)).2;
+            file = black_box(answers::run(black_box(&self.pairs), 0, &file, u64::MAX)).2;
         });
         let (steps, pairs) = (self.steps as f64, self.pairs.len() as f64);
         [translation / steps, theirs / steps, run / pairs, interpreted / pairs]
