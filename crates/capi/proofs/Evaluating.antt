@@ -6,7 +6,7 @@ use Prim.Native.Nat.{ℕ, _*_, _^_, _<_}
 use lib.ListN.{length, getD, take}
 use Rattle.machine.specs.File.{File}
 use Rattle.laws.specs.AnswerAt.{AnswerAt, accepted, refused, refusedAt}
-use Rattle.machine.specs.Run.{Run, runOf}
+use Rattle.runs.specs.Run.{Run, runOf}
 use Rattle.sheet.specs.Demand3.{Demand3}
 use Rattle.sheet.specs.Evaluation.{evaluatedBy, evaluationOf, fileLeft}
 use Rattle.translator.specs.Translation.{translationOf, writtenOf}

@@ -1,6 +1,6 @@
 -- The promises of specs/Promises.antt.
 -- Assumes nothing.
-use mathlib.Core.Path.{_≡_, _∙_, ap}
+use mathlib.Core.Path.{_∙_, ap}
 use Rattle.insn.specs.declared.Insn.{Insn}
 use Rattle.laws.specs.Answer.{Answer}
 use Rattle.encode.specs.Writing.{writing}

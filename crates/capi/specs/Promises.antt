@@ -6,7 +6,7 @@ use Prim.Native.Nat.{ℕ, _<_, _^_}
 use Rattle.laws.specs.Answer.{accepted}
 use Rattle.insn.specs.declared.Insn.{Insn}
 use Rattle.decode.specs.Reading.{reading}
-use Rattle.encode.specs.Forms.{pair}
+use Rattle.writings.specs.Forms.{pair}
 use Rattle.encode.specs.Writing.{writing}
 use Rattle.words.specs.Records.{recordOf}
 use Rattle.capi.specs.Results.{recordAfter}

@@ -6,8 +6,8 @@ use Rattle.laws.specs.Answer.{Answer, accepted, refused}
 use Rattle.laws.specs.AnswerAt as at
 use Rattle.laws.specs.AnswerAt.{AnswerAt}
 use Rattle.insn.specs.declared.Insn.{Insn}
-use Rattle.encode.specs.Forms.{Pair, pair}
-use Rattle.machine.specs.Run.{Ending, done, stopped, Run}
+use Rattle.writings.specs.Forms.{Pair, pair}
+use Rattle.runs.specs.Run.{Ending, done, stopped, Run}
 use Rattle.words.specs.Words.{recordWords}
 
 -- 0, or the refusal's number

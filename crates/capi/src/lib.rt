@@ -3,20 +3,20 @@ ghost use mathlib.Core.Path.{_≡_};
 ghost use Prim.Native.Nat.{ℕ};
 ghost use Rattle.decode.specs.Reading.{reading};
 ghost use lib.ListN.{length};
-ghost use Rattle.machine.specs.Run.{Run, runOf};
+ghost use Rattle.runs.specs.Run.{Run, runOf};
 ghost use Rattle.sheet.specs.Demand3.{Demand3};
 ghost use Rattle.sheet.specs.Evaluation.{evaluationOf, fileLeft};
 ghost use Rattle.translator.specs.Translation.{translationOf, writtenOf};
 ghost use Rattle.encode.specs.Writing.{writing};
 ghost use Rattle.listing.specs.Answers.{lengthFor, outAfter};
-ghost use Rattle.listing.specs.Listing.{listing};
+ghost use Rattle.lines.specs.Listing.{listing};
 ghost use Rattle.words.specs.Records.{recordOf};
 ghost use Rattle.capi.specs.Results.{returnCode, recordAfter, pairAfter, endCode, codeAt, countOrPlace, executedOr0, acceptedOr0};
-use decode::Reading;
-use encode::Writing;
 use listing::Listed;
 use machine::Outcome;
+use readings::Reading;
 use translator::Translation;
+use writings::Writing;
 
 // Reads a pair: 0 and its record, or the refusal's number with the record untouched.
 #[no_mangle]
@@ -63,7 +63,7 @@ pub extern "C" fn bodlixo_run(
     ensures executed { λ r. ⌜ now (executed .exit) ≡ runOf (now (code .entry)) start (now (file .entry)) budget .executed ⌝ }
     ensures file { λ r. ⌜ now (file .exit) ≡ runOf (now (code .entry)) start (now (file .entry)) budget .file ⌝ }
 {
-    let ran = machine::run::run(code, start, file, budget);
+    let ran = runs::run(code, start, file, budget);
     *executed = ran.executed;
     let outcome = ran.outcome;
     match outcome {

@@ -1,4 +1,1 @@
-pub mod Promises
 pub mod Starred
-pub mod Vectors
-pub mod Parts

@@ -4,19 +4,19 @@ use mathlib.Core.Path.{refl}
 use lib.Ieee.{odd}
 use Rattle.laws.specs.Signed.{twosComplement}
 use Rattle.fields.specs.Registers.{vecOf}
-use Rattle.immediates.specs.Floats.{floatOf}
+use Rattle.floats.specs.Floats.{floatOf}
 use Rattle.immediates.specs.Modified.{constantAt, element, operandIn, needsNonzero}
-use Rattle.immediates.specs.Shifts.{isEscape, rightEnd, leftStart, sizeCode}
+use Rattle.amounts.specs.Shifts.{isEscape, rightEnd, leftStart, sizeCode}
 use Rattle.names.specs.Names.{names, numberOf, pairwise}
-use Rattle.tables.specs.Same3.{same3}
-use Rattle.tables.specs.Shift.{shiftRows, shiftCells, shiftClasses, vmovl}
-use Rattle.tables.specs.Modimm.{modimm}
-use Rattle.tables.specs.Diff.{diffRows, diffCells, diffShapes, diffMarks}
-use Rattle.decode.specs.Operands.{two, three}
-use Rattle.decode.specs.Same3.{same3Of, same3Reading}
-use Rattle.decode.specs.Diff.{diffOf, diffReading}
-use Rattle.decode.specs.Shift.{forbidden, columnOf, shifted, shiftOf, shiftReading, isLongByZero}
-use Rattle.decode.specs.Modimm.{modimmOf, modimmReading}
+use Rattle.register_tables.specs.Same3.{same3}
+use Rattle.immediate_tables.specs.Shift.{shiftRows, shiftCells, shiftClasses, vmovl}
+use Rattle.immediate_tables.specs.Modimm.{modimm}
+use Rattle.register_tables.specs.Diff.{diffRows, diffCells, diffShapes, diffMarks}
+use Rattle.readings.specs.Operands.{two, three}
+use Rattle.read_registers.specs.Same3.{same3Of, same3Reading}
+use Rattle.read_registers.specs.Diff.{diffOf, diffReading}
+use Rattle.read_immediates.specs.Shift.{forbidden, columnOf, shifted, shiftOf, shiftReading, isLongByZero}
+use Rattle.read_immediates.specs.Modimm.{modimmOf, modimmReading}
 use Rattle.decode.specs.Reading.{familyOf, inFamily, reading}
 use Rattle.decode.specs.Starred.{starred, expected, StarredRead}
 

@@ -7,14 +7,14 @@ use Rattle.laws.specs.Answer.{Answer, refused}
 use Rattle.laws.specs.Choice.{choose, both}
 use Rattle.insn.specs.declared.Insn.{Insn}
 use Rattle.fields.specs.Halfwords.{bit, field}
-use Rattle.immediates.specs.Shifts.{isEscape}
+use Rattle.amounts.specs.Shifts.{isEscape}
 use Rattle.decode.specs.declared.Family.{Family}
 use Rattle.decode.specs.declared.Family.the-variants.{ThreeSame, ThreeDifferent, Shift, ModifiedImmediate, NoFamily}
-use Rattle.decode.specs.Operands.{isSet}
-use Rattle.decode.specs.Same3.{same3Reading}
-use Rattle.decode.specs.Diff.{diffReading}
-use Rattle.decode.specs.Shift.{shiftReading}
-use Rattle.decode.specs.Modimm.{modimmReading}
+use Rattle.readings.specs.Operands.{isSet}
+use Rattle.read_registers.specs.Same3.{same3Reading}
+use Rattle.read_registers.specs.Diff.{diffReading}
+use Rattle.read_immediates.specs.Shift.{shiftReading}
+use Rattle.read_immediates.specs.Modimm.{modimmReading}
 
 -- hw1 and ef80 is ef00 or ef80: bits 15..13 and 11..8 are all ones
 abbrev pub isDataProcessing : ℕ → Bool

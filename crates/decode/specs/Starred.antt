@@ -14,7 +14,7 @@ use Rattle.insn.specs.declared.Mark.the-variants.{T1}
 use Rattle.insn.specs.declared.Operand.{Operand}
 use Rattle.insn.specs.declared.Operand.the-variants.{D, Q, Imm, Float, Absent}
 use Rattle.names.specs.Names.{numberOf}
-use Rattle.decode.specs.Operands.{insn}
+use Rattle.readings.specs.Operands.{insn}
 use Rattle.decode.specs.Reading.{reading}
 
 -- what a pair reads as: a name and its operands, or a refusal

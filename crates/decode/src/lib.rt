@@ -1,21 +1,13 @@
 // Reading a pair of halfwords.
 ghost use mathlib.Core.Path.{_≡_};
-ghost use Rattle.decode.specs.Answers.{readingAnswer};
+ghost use Rattle.readings.specs.Answers.{readingAnswer};
 ghost use Rattle.decode.specs.Reading.{familyOf, reading};
-use insn::Insn;
 use insn::Refusal;
-
-mod diff;
-mod modimm;
-mod operands;
-mod same3;
-mod shift;
-
-// What a reading answers: the record, or the refusal.
-pub enum Reading {
-    Read(Insn),
-    Refused(Refusal),
-}
+use read_immediates::modimm;
+use read_immediates::shift;
+use read_registers::diff;
+use read_registers::same3;
+use readings::Reading;
 
 // The families of document 01, 'Four families'.
 pub enum Family {
@@ -40,7 +32,7 @@ pub fn family_of(hw1: u16, hw2: u16) -> Family
         return Family::ThreeSame;
     }
     if hw2 / 16 % 2 == 1 {
-        if immediates::shift::is_modimm_escape((hw2 / 128 % 2) as u8, (hw1 % 64) as u8) {
+        if amounts::is_modimm_escape((hw2 / 128 % 2) as u8, (hw1 % 64) as u8) {
             return Family::ModifiedImmediate;
         }
         return Family::Shift;

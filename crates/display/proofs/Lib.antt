@@ -1,4 +1,2 @@
 pub mod Short
-pub mod Names
-pub mod Endings
 pub mod Registers

@@ -11,7 +11,7 @@ use borrow.Author.Tests.{leb-true}
 use Rattle.laws.specs.Search.{Found, at, none}
 use Rattle.laws.proofs.Range.{values, agree}
 use Rattle.names.specs.Names.{codes}
-use Rattle.immediates.specs.Floats.{kOf}
+use Rattle.floats.specs.Floats.{kOf}
 use Rattle.text.specs.Text.{minus}
 use Rattle.text.proofs.Decimal.{within}
 use Rattle.display.specs.Operands.{overText}

@@ -9,8 +9,8 @@ use Rattle.insn.specs.declared.Operand.{Operand}
 use Rattle.insn.specs.declared.Operand.the-variants.{D, Q, S, Imm, Float, Other, Absent}
 use Rattle.names.specs.Names.{codes, nameOf}
 use Rattle.laws.specs.Search.{Found, at, none}
-use Rattle.immediates.specs.Floats.{kOf}
-use Rattle.immediates.specs.Found.{findFloat}
+use Rattle.floats.specs.Floats.{kOf}
+use Rattle.floats.specs.Found.{findFloat}
 use Rattle.text.specs.Text.{decimal, minus, signedDecimal}
 
 -- the float of immediate b, as k over 128; those from 128 on are negative

@@ -5,32 +5,22 @@ use Prim.Native.Nat.{ℕ}
 use Rattle.insn.specs.declared.Operand.{Operand}
 use Rattle.insn.specs.declared.Operand.the-variants.{D, Q, S, Imm, Float, Other, Absent}
 
--- a D, Q or S register
+-- what a D, Q or S register gives by its letter and number; else the other
+abbrev pub registerOr : {A : Type 0} → (ℕ → ℕ → A) → A → Operand → A
+registerOr register other (D n) = register 100 n
+registerOr register other (Q n) = register 113 n
+registerOr register other (S n) = register 115 n
+registerOr register other (Imm v) = other
+registerOr register other (Float x) = other
+registerOr register other Other = other
+registerOr register other Absent = other
+
 abbrev pub isRegister : Operand → Bool
-isRegister (D n) = true
-isRegister (Q n) = true
-isRegister (S n) = true
-isRegister (Imm v) = false
-isRegister (Float x) = false
-isRegister Other = false
-isRegister Absent = false
+isRegister o = registerOr (λ letter n. true) false o
 
--- the letter of a register; 0 for what is none
+-- its letter and its number; 0 for what is none
 abbrev pub registerLetter : Operand → ℕ
-registerLetter (D n) = 100
-registerLetter (Q n) = 113
-registerLetter (S n) = 115
-registerLetter (Imm v) = 0
-registerLetter (Float x) = 0
-registerLetter Other = 0
-registerLetter Absent = 0
+registerLetter o = registerOr (λ letter n. letter) 0 o
 
--- the number of a register; 0 for what is none
 abbrev pub registerNumber : Operand → ℕ
-registerNumber (D n) = n
-registerNumber (Q n) = n
-registerNumber (S n) = n
-registerNumber (Imm v) = 0
-registerNumber (Float x) = 0
-registerNumber Other = 0
-registerNumber Absent = 0
+registerNumber o = registerOr (λ letter n. n) 0 o

@@ -3,12 +3,12 @@ ghost use mathlib.Core.Bool.{false};
 ghost use mathlib.Core.Path.{_≡_};
 ghost use mathlib.Core.List.{_∷_, map};
 ghost use Prim.Native.Nat.{_<_, _^_};
-ghost use Rattle.immediates.specs.Found.{findFloat};
+ghost use Rattle.floats.specs.Found.{findFloat};
 ghost use Rattle.display.specs.Operands.{overText, operandText, withCommas, operands};
 ghost use Rattle.display.specs.Own.{isRegister, registerLetter, registerNumber};
 ghost use Rattle.laws.specs.Placed.{Placed};
 ghost use Rattle.text.specs.Text.{decimal};
-use immediates::float::FloatFound;
+use floats::FloatFound;
 use insn::Insn;
 use insn::Operand;
 
@@ -29,11 +29,11 @@ fn put_over(out: &mut [u8], at: usize, x: f64) -> usize
     requires { ⌜ at < 2 ^ 60 ⌝ }
     ensures { λ r. ⌜ Placed 9 (now (out .entry)) at (overText (findFloat x)) (now (out .exit)) r ⌝ }
 {
-    let found = immediates::float::float_imm8(x);
+    let found = floats::float_imm8(x);
     match found {
         FloatFound::Imm8(b) => {
             let p = text::put_minus(out, at, 128 <= b);
-            let q = text::put_five(out, p, immediates::modified::float_k(b) as u64);
+            let q = text::put_five(out, p, floats::float_k(b) as u64);
             text::put_word(out, q, b'/', b'1', b'2', b'8')
         }
         FloatFound::NoImm8 => at,

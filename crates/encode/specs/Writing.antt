@@ -10,11 +10,11 @@ use Rattle.homes.specs.Home.{homeOf}
 use Rattle.names.specs.Names.{nameOf}
 use Rattle.homes.specs.declared.Home.{Home}
 use Rattle.homes.specs.declared.Home.the-variants.{Same3, Shift, Vmovl, Modimm, Diff, Vmov, Nowhere}
-use Rattle.encode.specs.Forms.{Pair, isNumber}
-use Rattle.encode.specs.Same3.{same3Writing, vmovWriting}
-use Rattle.encode.specs.Diff.{diffWriting}
-use Rattle.encode.specs.Shift.{shiftWriting, vmovlWriting}
-use Rattle.encode.specs.Modimm.{modimmWriting}
+use Rattle.writings.specs.Forms.{Pair, isNumber}
+use Rattle.write_registers.specs.Same3.{same3Writing, vmovWriting}
+use Rattle.write_registers.specs.Diff.{diffWriting}
+use Rattle.write_immediates.specs.Shift.{shiftWriting, vmovlWriting}
+use Rattle.write_immediates.specs.Modimm.{modimmWriting}
 
 -- a name and its operands, in the table where the name is at home
 abbrev pub inHome : Home → String → ℕ → Operand → Operand → Operand → Answer Pair

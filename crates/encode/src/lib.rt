@@ -2,25 +2,19 @@
 ghost use mathlib.Core.Path.{_≡_};
 ghost use Rattle.homes.specs.Home.{homeOf};
 ghost use Rattle.names.specs.Names.{nameOf};
-ghost use Rattle.encode.specs.Answers.{writingAnswer};
-ghost use Rattle.encode.specs.Forms.{isNumber};
+ghost use Rattle.writings.specs.Answers.{writingAnswer};
+ghost use Rattle.writings.specs.Forms.{isNumber};
 ghost use Rattle.encode.specs.Writing.{inHome, writing};
 use homes::Home;
 use insn::Insn;
 use insn::Operand;
 use insn::Refusal;
-
-mod diff;
-mod forms;
-mod modimm;
-mod same3;
-mod shift;
-
-// What a writing answers: the two halfwords, or the refusal.
-pub enum Writing {
-    Wrote(u16, u16),
-    Refused(Refusal),
-}
+use write_immediates::modimm;
+use write_immediates::shift;
+use write_registers::diff;
+use write_registers::same3;
+use writings::Writing;
+use writings::is_number;
 
 // Writes mnemonic m and its operands in the table where it is at home.
 fn write_in(home: Home, m: u16, count: u8, a: Operand, b: Operand, c: Operand) -> Writing
@@ -43,7 +37,7 @@ pub fn write(i: Insn) -> Writing
     ensures { λ r. ⌜ writingAnswer r ≡ writing i ⌝ }
 {
     let c = insn::place(i, 2);
-    let home = homes::home_of(i.mnemonic, forms::is_number(c));
+    let home = homes::home_of(i.mnemonic, is_number(c));
     write_in(
         home,
         i.mnemonic,

@@ -17,9 +17,9 @@ use Rattle.forms.specs.Promises as promises
 use Rattle.forms.specs.Promises.{hasForm, ListedForm, ListedCounted}
 use Rattle.forms.proofs.Numbered.{numbered, formAt, form-at, blank}
 
-pub listed : ListedCounted
+pub listedCounted : ListedCounted
 unfolding names nameOf groups namedForms
-listed = (refl, refl)
+listedCounted = (refl, refl)
 
 below : (m : ℕ) → m < 346 → hasForm (formAt m) ≡ promises.listed m
 unfolding values names nameOf groups namedForms numbered formAt

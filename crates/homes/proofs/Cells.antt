@@ -1,22 +1,22 @@
 -- A mnemonic's home has its name, and a cell's name has that cell for its home: antt computes both, at each mnemonic and at each cell.
 -- Assumes nothing.
-use mathlib.Core.Path.{_≡_, refl, sym, _∙_, subst}
+use mathlib.Core.Path.{_≡_, refl, _∙_}
 use mathlib.Core.Bool.{Bool, true, false}
-use mathlib.Core.List.{List, [], _∷_}
+use mathlib.Core.List.{[], _∷_}
 use Prim.Native.Nat.{ℕ, _+_, _*_, _/_, _%_, _<_}
 use Prim.Native.String.{String}
-use lib.Dec.{T, ltb}
+use lib.Dec.{ltb}
 use lib.ListN.{getD}
-use lib.Text.{eqt, eqt→eq}
+use lib.Text.{eqt}
 use borrow.Author.Tests.{ltb-true, ltb-false}
 use Rattle.laws.specs.Choice.{choose, both}
 use Rattle.laws.proofs.Range.{values, agree}
-use Rattle.laws.proofs.Never.{never, wrong}
+use Rattle.laws.proofs.Never.{never}
 use Rattle.names.specs.Names.{names, nameOf, numberOf}
-use Rattle.tables.specs.Same3.{same3}
-use Rattle.tables.specs.Shift.{shiftRows, shiftCells, shiftClasses, vmovl}
-use Rattle.tables.specs.Modimm.{modimm}
-use Rattle.tables.specs.Diff.{diffRows, diffCells}
+use Rattle.register_tables.specs.Same3.{same3}
+use Rattle.immediate_tables.specs.Shift.{shiftRows, shiftCells, shiftClasses, vmovl}
+use Rattle.immediate_tables.specs.Modimm.{modimm}
+use Rattle.register_tables.specs.Diff.{diffRows, diffCells}
 use Rattle.tables.specs.declared.ShiftClass.{ShiftClass}
 use Rattle.tables.specs.declared.ShiftClass.the-variants.{Right, Left, Narrow, Long, Convert}
 use Rattle.tables.proofs.Cells.{cell4, cell16}

@@ -15,10 +15,10 @@ use Rattle.names.specs.Names.{names, nameOf}
 use Rattle.names.proofs.Known.{named}
 use Rattle.names.proofs.Spellings.{no-name}
 use Rattle.tables.specs.Cells.{cellsOf}
-use Rattle.tables.specs.Same3.{same3}
-use Rattle.tables.specs.Shift.{shiftRows, shiftCells, vmovl}
-use Rattle.tables.specs.Modimm.{modimm}
-use Rattle.tables.specs.Diff.{diffRows, diffCells}
+use Rattle.register_tables.specs.Same3.{same3}
+use Rattle.immediate_tables.specs.Shift.{shiftRows, shiftCells, vmovl}
+use Rattle.immediate_tables.specs.Modimm.{modimm}
+use Rattle.register_tables.specs.Diff.{diffRows, diffCells}
 use Rattle.homes.specs.Home.{placeIn, otherHome, homeBy, homeOf}
 use Rattle.homes.specs.declared.Home.{Home}
 use Rattle.homes.specs.declared.Home.the-variants.{Same3, Shift, Vmovl, Modimm, Diff, Vmov, Nowhere}

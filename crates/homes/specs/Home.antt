@@ -8,10 +8,10 @@ use lib.Text.{eqt}
 use Rattle.laws.specs.Choice.{choose}
 use Rattle.laws.specs.Search.{Found, at, none}
 use Rattle.tables.specs.Cells.{cellsOf}
-use Rattle.tables.specs.Same3.{same3}
-use Rattle.tables.specs.Shift.{shiftCells, vmovl}
-use Rattle.tables.specs.Modimm.{modimm}
-use Rattle.tables.specs.Diff.{diffCells}
+use Rattle.register_tables.specs.Same3.{same3}
+use Rattle.immediate_tables.specs.Shift.{shiftCells, vmovl}
+use Rattle.immediate_tables.specs.Modimm.{modimm}
+use Rattle.register_tables.specs.Diff.{diffCells}
 use Rattle.homes.specs.declared.Home.{Home}
 use Rattle.homes.specs.declared.Home.the-variants.{Same3, Shift, Vmovl, Modimm, Diff, Vmov, Nowhere}
 

@@ -13,7 +13,7 @@ use Rattle.laws.specs.Answer.{accepted}
 use Rattle.laws.specs.Choice.{choose}
 use Rattle.laws.proofs.Range.{values, agree, agree2}
 use Rattle.insn.specs.declared.Operand.the-variants.{Imm}
-use Rattle.immediates.specs.Floats.{floatBits}
+use Rattle.floats.specs.Floats.{floatBits}
 use Rattle.immediates.specs.Modified.{undefined, a7-15, constantAt, element, bytesOf, patternIn, operandIn, expandImm, modimmOperand, needsNonzero}
 
 -- cmode >> 1 is 1, 2, 3, 5 or 6

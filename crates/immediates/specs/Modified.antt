@@ -12,8 +12,7 @@ use Rattle.laws.specs.Choice.{both}
 use Rattle.laws.specs.Signed.{twosComplement}
 use Rattle.insn.specs.declared.Operand.{Operand}
 use Rattle.insn.specs.declared.Operand.the-variants.{Imm, Float, Absent}
-use Rattle.fields.specs.Halfwords.{bit}
-use Rattle.immediates.specs.Floats.{floatOf, floatBits}
+use Rattle.floats.specs.Floats.{floatOf, floatBits}
 
 -- a row's constant:
 pub data Constant : Type 0 where

@@ -1,5 +1,2 @@
-pub mod Numbers
-pub mod Signs
-pub mod Words
 pub mod Lanewise
 pub mod Promises

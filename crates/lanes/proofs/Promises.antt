@@ -7,10 +7,11 @@ use lib.Pow.{pow-mono}
 use Rattle.laws.specs.Signed.{twosComplement, modulo}
 use Rattle.laws.proofs.Signed.{modulo-lt}
 use Rattle.insn.specs.declared.Width.the-variants.{B8, B16, B32, B64}
-use Rattle.lanes.specs.Lane.{readAs, greater, lesser, onesIf, exact, laneOf, lanewise, lanesOf}
+use Rattle.arithmetic.specs.Whole.{readAs, greater, lesser, onesIf}
+use Rattle.lanes.specs.Lane.{exact, laneOf, lanewise, lanesOf}
 use Rattle.insn.specs.Widths.{bitsOf}
 use Rattle.lanes.specs.Promises.{EachLane, Split, LaneBelow, LanesBelow, ReadBack, Worked, RowByHalves}
-use Rattle.lanes.proofs.Signs as signs
+use Rattle.arithmetic.proofs.Signs as signs
 use Rattle.lanes.proofs.Lanewise as laws
 
 pub eachLane : EachLane
@@ -19,12 +20,12 @@ eachLane = laws.each
 pub split : Split
 split = laws.split
 
-pub row : RowByHalves
+pub rowByHalves : RowByHalves
 unfolding lanesOf
-row op B8 = split (laneOf op 8) 8 8 8 8 8
-row op B16 = split (laneOf op 16) 16 16 16 4 4
-row op B32 = split (laneOf op 32) 32 32 32 2 2
-row op B64 = split (laneOf op 64) 64 64 64 1 1
+rowByHalves op B8 = split (laneOf op 8) 8 8 8 8 8
+rowByHalves op B16 = split (laneOf op 16) 16 16 16 4 4
+rowByHalves op B32 = split (laneOf op 32) 32 32 32 2 2
+rowByHalves op B64 = split (laneOf op 64) 64 64 64 1 1
 
 pub laneBelow : LaneBelow
 unfolding laneOf

@@ -1,36 +1,18 @@
 -- What an operation does to one lane of w bits, and to each lane of a number. Lane 0 is the lowest.
 -- From ARM DDI 0406C, A8.8; an operation has its instruction's name, without the v and the type.
 -- Assumes nothing.
-use Prim.Native.Nat.{ℕ, zero, suc, _+_, _-_, _*_, _/_, _%_, _^_}
-use mathlib.Core.Bool.{Bool, not}
+use Prim.Native.Nat.{ℕ, zero, suc, _+_, _*_, _/_, _%_, _^_}
+use mathlib.Core.Bool.{not}
 use lib.Dec.{eqb}
 use lib.Bits.{bitAnd}
 use lib.IntN.{ℤ, pos, _+ℤ_, _-ℤ_, _*ℤ_}
 use lib.Signed.{ltZ, leZ, shrZ}
-use Rattle.laws.specs.Choice.{choose}
-use Rattle.laws.specs.Signed.{twosComplement, modulo}
+use Rattle.laws.specs.Signed.{modulo}
 use Rattle.insn.specs.declared.Width.{Width}
 use Rattle.insn.specs.Widths.{bitsOf}
-use Rattle.insn.specs.declared.Sign.{Sign}
-use Rattle.insn.specs.declared.Sign.the-variants.{Unsigned, Signed}
+use Rattle.arithmetic.specs.Whole.{readAs, greater, lesser, onesIf}
 use Rattle.lanes.specs.declared.LaneOp.{LaneOp}
 use Rattle.lanes.specs.declared.LaneOp.the-variants.{Add, Sub, Mul, Mla, Mls, Max, Min, Cgt, Cge, Ceq, Tst, Shl, Shr}
-
--- a lane x of w bits as a whole number: from 0, or in two's complement
-unfoldable pub readAs : Sign → ℕ → ℕ → ℤ
-readAs Unsigned w x = pos x
-readAs Signed w x = twosComplement w x
-
--- the greater and the lesser of two whole numbers
-unfoldable pub greater : ℤ → ℤ → ℤ
-greater a b = choose (ltZ a b) b a
-
-unfoldable pub lesser : ℤ → ℤ → ℤ
-lesser a b = choose (ltZ a b) a b
-
--- w ones where the test holds, else 0
-unfoldable pub onesIf : Bool → ℕ → ℤ
-onesIf t w = choose t (pos (2 ^ w - 1)) (pos 0)
 
 -- The exact whole number for a lane: d is the old target's lane, n and m are the sources'. A shift reads n alone.
 -- shrZ rounds down, so a right shift by w or more gives 0, or -1 for a negative lane.

@@ -8,7 +8,8 @@ use Rattle.insn.specs.declared.Sign.{Sign}
 use Rattle.insn.specs.declared.Sign.the-variants.{Unsigned, Signed}
 use Rattle.lanes.specs.declared.LaneOp.{LaneOp}
 use Rattle.lanes.specs.declared.LaneOp.the-variants.{Add, Sub, Mul, Mla, Mls, Max, Min, Cgt, Cge, Ceq, Tst, Shl, Shr}
-use Rattle.lanes.specs.Lane.{readAs, laneOf, lanewise, lanesOf}
+use Rattle.arithmetic.specs.Whole.{readAs}
+use Rattle.lanes.specs.Lane.{laneOf, lanewise, lanesOf}
 use Rattle.laws.specs.Signed.{modulo}
 
 -- lane i of x, where lanes have w bits

@@ -1,20 +1,17 @@
 // Lane arithmetic on 64-bit words: one operation at every lane of 8, 16, 32 or 64 bits.
-mod arith;
-mod whole;
-
-use arith::cut;
-use arith::difference;
-use arith::left;
-use arith::ones_if;
-use arith::product;
-use arith::sum;
+use arithmetic::arith::cut;
+use arithmetic::arith::difference;
+use arithmetic::arith::left;
+use arithmetic::arith::ones_if;
+use arithmetic::arith::product;
+use arithmetic::arith::sum;
+use arithmetic::whole::greatest;
+use arithmetic::whole::least;
+use arithmetic::whole::less;
+use arithmetic::whole::right;
 use insn::Sign;
 use insn::Width;
 use insn::widths::bits;
-use whole::greatest;
-use whole::least;
-use whole::less;
-use whole::right;
 ghost use mathlib.Core.Path.{_≡_};
 ghost use Prim.Native.Nat.{_+_, _-_, _*_, _/_, _%_, _^_, _<_, _≤_};
 ghost use Rattle.lanes.specs.Lane.{laneOf, lanesOf};

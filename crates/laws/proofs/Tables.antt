@@ -1,6 +1,6 @@
 -- What stands in a table whose cells were mapped: the image of what stood there.
 -- Assumes nothing.
-use mathlib.Core.Path.{_≡_, refl, ap, _∙_}
+use mathlib.Core.Path.{_≡_, refl}
 use mathlib.Core.List.{List, [], _∷_, map}
 use Prim.Native.Nat.{ℕ, zero, suc, _<_}
 use native.Mathlib.Nat.{le-of-suc-le-suc, not-suc-le-zero}
@@ -11,8 +11,3 @@ pub mapped : {A B : Type 0} (f : A → B) (l : List A) (a : A) (b : B) (k : ℕ)
 mapped f [] a b k h = absurd (not-suc-le-zero h)
 mapped f (x ∷ xs) a b zero h = refl
 mapped f (x ∷ xs) a b (suc k) h = mapped f xs a b k (le-of-suc-le-suc h)
-
--- a table of rows, by row and column
-pub mapped-rows : {A B : Type 0} (f : A → B) (ls : List (List A)) (a : A) (b : B) (r c : ℕ) → r < length ls → c < length (getD ls r [])
-    → getD (getD (map (map f) ls) r []) c b ≡ f (getD (getD ls r []) c a)
-mapped-rows {B = B} f ls a b r c h k = ap (λ (l : List B). getD l c b) (mapped (map f) ls [] [] r h) ∙ mapped f (getD ls r []) a b c k

@@ -1,4 +1,2 @@
-pub mod Short
-pub mod PairLines
 pub mod Whole
 pub mod Promises

@@ -12,31 +12,31 @@ use Rattle.laws.specs.Answer.{Answer, accepted, refused}
 use Rattle.laws.specs.Choice.{choose}
 use Rattle.laws.specs.Search.{firstFrom}
 use Rattle.laws.specs.Signed.{twosComplement}
-use Rattle.tables.specs.Modimm.{modimm}
+use Rattle.immediate_tables.specs.Modimm.{modimm}
 use Rattle.names.specs.Names.{names, nameOf, numberOf, pairwise, codes}
-use Rattle.tables.specs.Same3.{same3}
-use Rattle.tables.specs.Shift.{shiftRows, shiftCells, shiftClasses, vmovl}
+use Rattle.register_tables.specs.Same3.{same3}
+use Rattle.immediate_tables.specs.Shift.{shiftRows, shiftCells, shiftClasses, vmovl}
 use Rattle.fields.specs.Registers.{vecOf}
-use Rattle.immediates.specs.Floats.{floatOf}
-use Rattle.immediates.specs.Found.{findFloat}
+use Rattle.floats.specs.Floats.{floatOf}
+use Rattle.floats.specs.Found.{findFloat}
 use Rattle.immediates.specs.Modified.{constantAt, element, operandIn, needsNonzero}
-use Rattle.immediates.specs.Shifts.{isEscape, rightEnd, leftStart, sizeCode}
-use Rattle.decode.specs.Operands.{two, three}
-use Rattle.decode.specs.Same3.{same3Of, same3Reading}
-use Rattle.decode.specs.Shift.{forbidden, columnOf, shiftOf, shiftReading}
-use Rattle.decode.specs.Modimm.{modimmOf, modimmReading}
+use Rattle.amounts.specs.Shifts.{isEscape, rightEnd, leftStart, sizeCode}
+use Rattle.readings.specs.Operands.{two, three}
+use Rattle.read_registers.specs.Same3.{same3Of, same3Reading}
+use Rattle.read_immediates.specs.Shift.{forbidden, columnOf, shiftOf, shiftReading}
+use Rattle.read_immediates.specs.Modimm.{modimmOf, modimmReading}
 use Rattle.decode.specs.Reading.{familyOf, inFamily, reading}
 use Rattle.listing.specs.declared.Listed.{Listed}
 use Rattle.listing.specs.declared.Listed.the-variants.{Length, TooShort}
 use Rattle.listing.specs.Answers.{listedAnswer, enough}
-use Rattle.listing.specs.Listing.{halfwordAt, readingText, lineText, pairLine, numbersBelow, isListable, lines, endedLines}
+use Rattle.lines.specs.Listing.{halfwordAt, readingText, lineText, pairLine, numbersBelow, isListable, lines, endedLines}
 use Rattle.listing.specs.Promises.{ListedApart, NeverLonger, Sample}
 use Rattle.display.specs.Operands.{overText, operandText, withCommas, insnText}
 use Rattle.text.specs.Text.{digits, decimal, minus, signedDecimal, hex4}
 use Rattle.text.proofs.Decimal.{within}
-use Rattle.listing.proofs.PairLines.{one-more}
-use Rattle.listing.proofs.Short.{line-short}
-use Rattle.listing.proofs.Whole.{listable}
+use Rattle.lines.proofs.PairLines.{one-more}
+use Rattle.lines.proofs.Short.{line-short}
+use Rattle.lines.proofs.Listable.{listable}
 
 -- the case of an answer, of which `listedAnswer` is the inverse
 abbrev named : Answer ℕ → Listed

@@ -1,25 +1,19 @@
--- A length that is listed, and a listing that fits the buffer or does not.
+-- A listing that fits the buffer, or does not.
 -- Assumes nothing.
 use mathlib.Core.Path.{_≡_, refl}
 use mathlib.Core.Bool.{Bool, true, false}
 use mathlib.Core.List.{List}
-use Prim.Native.Nat.{ℕ, _+_, _%_, _<_, _≤_}
+use Prim.Native.Nat.{ℕ, _+_, _<_, _≤_}
 use native.Mathlib.Omega.{arith}
-use lib.Dec.{eqb, leb}
+use lib.Dec.{leb}
 use lib.ListN.{length}
 use borrow.Author.Tests.{leb-true, le-leb, lt-leb}
 use Rattle.laws.specs.Answer.{accepted, refused}
 use Rattle.laws.specs.Choice.{choose}
-use Rattle.laws.proofs.Never.{never, wrong}
+use Rattle.laws.proofs.Never.{never}
 use Rattle.laws.specs.Placed.{Placed}
 use Rattle.laws.proofs.Placed.{whole}
 use Rattle.listing.specs.Answers.{lengthFor, outAfter}
-use Rattle.listing.specs.Listing.{isListable}
-use Rattle.laws.proofs.Tests.{both-true}
-
-pub listable : (n : ℕ) → isListable n ≡ true → n ≤ 65536
-unfolding isListable
-listable n e = leb-true n 65536 (both-true (eqb (n % 4) 0) (leb n 65536) e .1)
 
 pub fits : {b r′ : ℕ} (text out l : List ℕ) (r : ℕ) → Placed b out 0 text l r′ → r ≡ 0 + length text → r ≤ length out → (accepted r ≡ lengthFor text out) × (l ≡ outAfter text out)
 unfolding lengthFor outAfter

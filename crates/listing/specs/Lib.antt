@@ -1,4 +1,2 @@
-pub mod Listing
 pub mod Answers
 pub mod Promises
-pub mod Own

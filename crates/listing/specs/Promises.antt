@@ -7,7 +7,7 @@ use lib.ListN.{length}
 use Rattle.names.specs.Names.{codes}
 use Rattle.listing.specs.declared.Listed.{Listed}
 use Rattle.listing.specs.Answers.{listedAnswer, enough}
-use Rattle.listing.specs.Listing.{endedLines, listing}
+use Rattle.lines.specs.Listing.{endedLines, listing}
 
 -- an answer says which case it is
 abbrev pub ListedApart : Type 0

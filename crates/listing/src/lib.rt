@@ -1,9 +1,7 @@
 // A listing as bytes in a lent buffer.
 ghost use mathlib.Core.Path.{_≡_};
 ghost use Rattle.listing.specs.Answers.{listedAnswer, lengthFor, outAfter};
-ghost use Rattle.listing.specs.Listing.{listing};
-
-mod lines;
+ghost use Rattle.lines.specs.Listing.{listing};
 
 // What a listing answers: its length, or that the buffer is too short for it.
 pub enum Listed {

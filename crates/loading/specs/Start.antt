@@ -2,14 +2,10 @@
 -- Assumes nothing.
 use mathlib.Core.List.{List}
 use mathlib.Core.Path.{_≡_}
-use Prim.Native.Nat.{ℕ, _+_, _*_, _^_, _<_}
+use Prim.Native.Nat.{ℕ, _*_, _<_}
 use lib.ListN.{getD}
-use Rattle.steps.specs.Steps.{wordAt}
+use Rattle.little_endian.specs.Word.{wordAt}
 
 -- doubleword k is the word of the bytes from 8k on
 abbrev pub StartFile : List ℕ → List ℕ → Type 0
 StartFile bytes file = (k : ℕ) → k < 32 → getD file k 0 ≡ wordAt bytes (8 * k)
-
--- four bytes from place i on, the lowest first
-abbrev pub halfAt : List ℕ → ℕ → ℕ
-halfAt bytes i = getD bytes i 0 + 2 ^ 8 * getD bytes (i + 1) 0 + 2 ^ 16 * getD bytes (i + 2) 0 + 2 ^ 24 * getD bytes (i + 3) 0

@@ -15,23 +15,22 @@ use Rattle.laws.specs.Signed.{twosComplement, modulo}
 use Rattle.laws.proofs.Range.{values, agree2}
 use Rattle.laws.proofs.Never.{never, wrong}
 use Rattle.insn.specs.declared.Insn.{Insn}
-use Rattle.insn.specs.declared.Mark.{Mark}
 use Rattle.insn.specs.declared.Mark.the-variants.{T1}
 use Rattle.insn.specs.declared.Operand.{Operand}
 use Rattle.insn.specs.declared.Operand.the-variants.{Float, Absent}
 use Rattle.tables.specs.Cells.{cellAt}
-use Rattle.tables.specs.Modimm.{modimm}
+use Rattle.immediate_tables.specs.Modimm.{modimm}
 use Rattle.names.specs.Names.{names, nameOf, numberOf}
 use Rattle.fields.specs.Halfwords.{bit, field}
 use Rattle.fields.specs.Registers.{dnumOf, bits, vecOf, vecBits}
 use Rattle.fields.proofs.Promises.{bitsOfVec}
-use Rattle.immediates.specs.Floats.{floatBits}
+use Rattle.floats.specs.Floats.{floatBits}
 use Rattle.immediates.specs.Modified as modified
 use Rattle.immediates.specs.Modified.{byte, eachBit, float, undefined, constantAt, element, copies, patternIn, expandImm, operandIn, modimmOperand, needsNonzero}
-use Rattle.immediates.proofs.Found.{back-found}
-use Rattle.decode.specs.Modimm.{modimmOf, imm8Of, modimmReading}
-use Rattle.decode.specs.Operands.{isSet, insn}
-use Rattle.decode.specs.Operands as Read
+use Rattle.floats.proofs.Found.{back-found}
+use Rattle.read_immediates.specs.Modimm.{modimmOf, imm8Of, modimmReading}
+use Rattle.readings.specs.Operands.{isSet, insn}
+use Rattle.readings.specs.Operands as Read
 use Rattle.decode.specs.Reading.{reading, inFamily}
 use Rattle.insn.specs.declared.Width.{Width}
 use Rattle.insn.specs.declared.Width.the-variants.{B8, B16, B32, B64}
@@ -45,7 +44,7 @@ use Rattle.machine.specs.Constants.{Expands, ConstantExpands}
 use Rattle.forms.specs.Forms.{groups, namedForms, formOf}
 use Rattle.meanings.specs.Meaning.{act, registers, acting, on, wholePattern, floatPattern, repeated, meaningIn, meaningOf}
 use Rattle.laws.proofs.Tests.{passed}
-use Rattle.decode.proofs.Parts.{two-operands}
+use Rattle.readings.proofs.Parts.{two-operands}
 
 -- the forms of table A7-14
 forms : List (List Form)

@@ -1,6 +1,5 @@
 -- What the code's types hold: a file has 32 numbers of 64 bits, and an operation's constant 64 bits.
 -- Assumes nothing.
-use mathlib.Core.Path.{_≡_, subst}
 use mathlib.Core.List.{List, [], _∷_}
 use Prim.Native.Nat.{ℕ, zero, suc, _^_, _<_}
 use lib.Dec.{lit<}

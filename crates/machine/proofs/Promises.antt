@@ -14,18 +14,14 @@ use Rattle.operations.specs.declared.Operation.{Operation}
 use Rattle.operations.specs.declared.Operation.the-variants.{Bits as Bitwise}
 use Rattle.forms.specs.declared.Form.the-variants.{Bits as Orred, Copy}
 use Rattle.meanings.specs.declared.Registers.{Registers}
-use Rattle.machine.specs.declared.Outcome.{Outcome}
 use Rattle.machine.specs.declared.Outcome.the-variants.{Done, Refused as Stopped}
-use Rattle.machine.specs.Answers.{endingOf}
 use Rattle.machine.specs.File.{File, Good, readD}
 use Rattle.forms.specs.Forms.{groups, namedForms, formOf}
 use Rattle.meanings.specs.Meaning.{Act, act, registers, acting, meaningIn, meaningOf}
 use Rattle.operations.specs.Operations.{resultOf}
 use Rattle.machine.specs.Step.{effect, stepBy, stepInsn}
-use Rattle.machine.specs.Run.{Run}
-use Rattle.machine.specs.Promises.{FileKept, OnlyTarget, CopyAlias, QuadHalves, OutcomesApart, RunsApart, RunKept, GoesOn}
+use Rattle.machine.specs.Promises.{FileKept, OnlyTarget, CopyAlias, QuadHalves, OutcomesApart}
 use Rattle.meanings.proofs.Actions.{Fits, meant}
-use Rattle.machine.proofs.Runs.{run-kept, run-goes-on}
 use Rattle.machine.proofs.Steps.{effect-good, effect-other, quad-halves}
 
 -- a step that was taken is an operation's effect
@@ -82,22 +78,3 @@ outcomesApart Done Done f g e = refl
 outcomesApart Done (Stopped y) f g e = never (cc)
 outcomesApart (Stopped x) Done f g e = never (cc)
 outcomesApart (Stopped x) (Stopped y) f g e = ap Stopped (numberedApart x y (cc))
-
--- and so does an ending
-endings-apart : (x y : Outcome) → endingOf x ≡ endingOf y → x ≡ y
-endings-apart Done Done e = refl
-endings-apart Done (Stopped y) e = never (cc)
-endings-apart (Stopped x) Done e = never (cc)
-endings-apart (Stopped x) (Stopped y) e = ap Stopped (numberedApart x y (cc))
-
-pub runsApart : RunsApart
-runsApart x y f g e =
-    let o = endings-apart (x .outcome) (y .outcome) (ap (λ (r : Run). r .ending) e) in
-    let n = ap (λ (r : Run). r .executed) e in
-    ((λ i. record { outcome = o i; executed = n i }), ap (λ (r : Run). r .file) e)
-
-pub runKept : RunKept
-runKept code start budget file = run-kept code start budget file
-
-pub goesOn : GoesOn
-goesOn code start b c file s = run-goes-on code start b c file s

@@ -1,16 +1,16 @@
 -- Every pair that is read as a listed name has a meaning: antt computes the forms of each table's names.
 -- Assumes nothing.
 use mathlib.Core.Path.{_≡_, refl, sym, ap, _∙_}
-use mathlib.Core.Bool.{Bool, true, false, not, Bool·beq}
+use mathlib.Core.Bool.{Bool, true, false, not}
 use Prim.Native.Nat.{ℕ, _+_, _*_, _<_}
 use Prim.Native.String.{String}
 use native.Mathlib.Omega.{arith}
-use lib.Dec.{eqb, ltb, leb}
+use lib.Dec.{eqb, leb}
 use lib.IntN.{pos}
 use lib.ListN.{getD}
 use lib.Text.{eqt}
-use borrow.Author.Tests.{ltb-true, leb-true}
-use Rattle.laws.specs.Answer.{Answer, accepted, refused}
+use borrow.Author.Tests.{leb-true}
+use Rattle.laws.specs.Answer.{Answer, accepted}
 use Rattle.laws.specs.Choice.{choose, both}
 use Rattle.laws.proofs.Range.{values, agree2}
 use Rattle.laws.proofs.Never.{never, wrong}
@@ -18,28 +18,30 @@ use Rattle.insn.specs.declared.Insn.{Insn}
 use Rattle.insn.specs.declared.Mark.{Mark}
 use Rattle.insn.specs.declared.Mark.the-variants.{T1}
 use Rattle.insn.specs.declared.Operand.{Operand}
-use Rattle.insn.specs.declared.Operand.the-variants.{Imm, Absent}
+use Rattle.insn.specs.declared.Operand.the-variants.{Imm}
 use Rattle.tables.specs.Cells.{cellAt}
 use Rattle.names.specs.Names.{names, nameOf, numberOf, pairwise}
-use Rattle.tables.specs.Same3.{same3}
-use Rattle.tables.specs.Shift.{shiftRows, shiftCells, shiftClasses, vmovl}
-use Rattle.tables.specs.Diff.{diffRows, diffCells, diffShapes, diffMarks}
+use Rattle.register_tables.specs.Same3.{same3}
+use Rattle.immediate_tables.specs.Shift.{shiftRows, shiftCells, shiftClasses, vmovl}
+use Rattle.register_tables.specs.Diff.{diffRows, diffCells, diffShapes, diffMarks}
 use Rattle.tables.specs.declared.ShiftClass.{ShiftClass}
 use Rattle.tables.specs.declared.ShiftClass.the-variants.{Right, Left, Narrow, Long, Convert}
 use Rattle.tables.specs.declared.DiffShape.{DiffShape}
 use Rattle.tables.specs.declared.DiffShape.the-variants as shape
-use Rattle.tables.proofs.Known.{same3-known, shift-known, diff-known}
+use Rattle.register_tables.proofs.Known.{same3-known, diff-known}
+use Rattle.immediate_tables.proofs.Known.{shift-known}
 use Rattle.fields.specs.Halfwords.{bit, field}
 use Rattle.fields.specs.Registers.{dnumOf, Bits, bits, vecOf, vecBits}
 use Rattle.fields.proofs.Promises.{bitsOfVec}
-use Rattle.immediates.specs.Shifts.{rightEnd, leftStart, amountOf, sizeCode}
+use Rattle.amounts.proofs.Shifts.{code-lt}
+use Rattle.amounts.specs.Shifts.{rightEnd, leftStart, amountOf, sizeCode}
 use Rattle.laws.proofs.Signed.{modulo-pos}
 use Rattle.decode.specs.declared.Family.{Family}
 use Rattle.decode.specs.declared.Family.the-variants as family
-use Rattle.decode.specs.Operands.{isSet, insn, two, three}
-use Rattle.decode.specs.Same3.{shiftsByRegister, same3Of, same3Name, same3Reading}
-use Rattle.decode.specs.Shift.{forbidden, columnOf, amount, shifted, shiftOf, shiftRow, shiftReading, isLongByZero}
-use Rattle.decode.specs.Diff.{diffOf, diffRow, diffReading}
+use Rattle.readings.specs.Operands.{isSet, two, three}
+use Rattle.read_registers.specs.Same3.{shiftsByRegister, same3Of, same3Name, same3Reading}
+use Rattle.read_immediates.specs.Shift.{forbidden, columnOf, amount, shifted, shiftOf, shiftRow, shiftReading, isLongByZero}
+use Rattle.read_registers.specs.Diff.{diffOf, diffRow, diffReading}
 use Rattle.decode.specs.Reading.{reading, familyOf, inFamily}
 use Rattle.operations.specs.declared.BitOp.the-variants.{Mov}
 use Rattle.operations.specs.declared.Operation.{Operation}
@@ -49,10 +51,10 @@ use Rattle.forms.specs.declared.Form.the-variants as form
 use Rattle.forms.specs.Forms.{groups, namedForms, formOf}
 use Rattle.forms.specs.Promises.{hasForm, listed}
 use Rattle.forms.proofs.Promises.{listedForm}
-use Rattle.meanings.specs.Meaning.{Act, act, registers, acting, on, wholePattern, shiftBy, meaningIn, meaningOf}
+use Rattle.meanings.specs.Meaning.{act, registers, acting, on, wholePattern, shiftBy, meaningIn, meaningOf}
 use Rattle.machine.specs.Promises.{Meant, ReadMeant}
 use Rattle.machine.proofs.Constants.{alike, constantExpands}
-use Rattle.decode.proofs.Parts.{Operands, operands, TwoOperands, two-operands}
+use Rattle.readings.proofs.Parts.{Operands, operands, two-operands}
 use Rattle.laws.proofs.Tests.{passed}
 use Rattle.tables.specs.Lengths.{shapeLengths}
 
@@ -102,10 +104,6 @@ vmov-form : formOf (nameOf (numberOf "vmov")) ≡ form.Copy
 unfolding names nameOf numberOf groups namedForms formOf
 vmov-form = refl
 
-code-lt : (l imm6 : ℕ) → l < 2 → imm6 < 64 → ltb (sizeCode l imm6) 4 ≡ true
-unfolding values sizeCode
-code-lt = agree2 (λ (l imm6 : ℕ). ltb (sizeCode l imm6) 4) (λ (l imm6 : ℕ). true) 2 64 refl
-
 right-le : (l imm6 : ℕ) → l < 2 → imm6 < 64 → leb (amountOf Right l imm6) 64 ≡ true
 unfolding values sizeCode rightEnd
 right-le = agree2 (λ (l imm6 : ℕ). leb (amountOf Right l imm6) 64) (λ (l imm6 : ℕ). true) 2 64 refl
@@ -116,10 +114,10 @@ left-le = agree2 (λ (l imm6 : ℕ). leb (amountOf Left l imm6) 64) (λ (l imm6 
 
 column-lt : (class : ShiftClass) (l imm6 : ℕ) → l < 2 → imm6 < 64 → columnOf class l imm6 < 4
 unfolding columnOf
-column-lt Right l imm6 hl hi = ltb-true (sizeCode l imm6) 4 (code-lt l imm6 hl hi)
-column-lt Left l imm6 hl hi = ltb-true (sizeCode l imm6) 4 (code-lt l imm6 hl hi)
-column-lt Narrow l imm6 hl hi = ltb-true (sizeCode l imm6) 4 (code-lt l imm6 hl hi)
-column-lt Long l imm6 hl hi = ltb-true (sizeCode l imm6) 4 (code-lt l imm6 hl hi)
+column-lt Right l imm6 hl hi = code-lt l imm6
+column-lt Left l imm6 hl hi = code-lt l imm6
+column-lt Narrow l imm6 hl hi = code-lt l imm6
+column-lt Long l imm6 hl hi = code-lt l imm6
 column-lt Convert l imm6 hl hi = omega arith
 
 -- registers of one size

@@ -5,9 +5,7 @@ use Rattle.insn.specs.Refusals.{number}
 use Rattle.machine.specs.declared.Outcome.{Outcome}
 use Rattle.machine.specs.declared.Outcome.the-variants.{Done, Refused as Stopped}
 use Rattle.machine.specs.declared.Stepped.{Stepped}
-use Rattle.machine.specs.declared.run.Ran.{Ran}
 use Rattle.machine.specs.File.{File}
-use Rattle.machine.specs.Run.{Ending, done, stopped, Run}
 
 abbrev pub outcomeAnswer : Outcome → File → Answer File
 outcomeAnswer Done file = accepted file
@@ -15,12 +13,3 @@ outcomeAnswer (Stopped f) file = refused (number f)
 
 abbrev pub steppedAnswer : Stepped → Answer File
 steppedAnswer s = outcomeAnswer (s .outcome) (s .file)
-
--- how a run ended
-abbrev pub endingOf : Outcome → Ending
-endingOf Done = done
-endingOf (Stopped f) = stopped (number f)
-
--- a run's answer, with the file that it leaves
-abbrev pub ranOf : Ran → File → Run
-ranOf r file = record { ending = endingOf (r .outcome); executed = r .executed; file = file }

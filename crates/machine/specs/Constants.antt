@@ -6,12 +6,12 @@ use Prim.Native.Nat.{ℕ}
 use Rattle.laws.specs.Answer.{accepted}
 use Rattle.insn.specs.declared.Insn.{Insn}
 use Rattle.tables.specs.Cells.{cellAt}
-use Rattle.tables.specs.Modimm.{modimm}
+use Rattle.immediate_tables.specs.Modimm.{modimm}
 use Rattle.fields.specs.Halfwords.{bit, field}
 use Rattle.fields.specs.Registers.{dnumOf}
 use Rattle.immediates.specs.Modified.{expandImm}
-use Rattle.decode.specs.Modimm.{imm8Of}
-use Rattle.decode.specs.Operands.{isSet}
+use Rattle.read_immediates.specs.Modimm.{imm8Of}
+use Rattle.readings.specs.Operands.{isSet}
 use Rattle.decode.specs.Reading.{reading, familyOf}
 use Rattle.decode.specs.declared.Family.the-variants.{ModifiedImmediate}
 use Rattle.operations.specs.declared.ConstantOp.{ConstantOp}

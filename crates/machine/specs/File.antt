@@ -22,8 +22,8 @@ abbrev pub writeD : File → ℕ → ℕ → File
 writeD file k v = set file k v
 
 -- a whole register, of 64 or 128 bits: Dk, or the quadword of Dk, low, and D(k+1)
-abbrev pub sizeOf : Bool → ℕ
-sizeOf quad = choose quad 128 64
+abbrev pub registerBits : Bool → ℕ
+registerBits quad = choose quad 128 64
 
 abbrev pub readR : Bool → File → ℕ → ℕ
 readR quad file k = choose quad (readD file k + 2 ^ 64 * readD file (k + 1)) (readD file k)

@@ -1,6 +1,5 @@
 pub mod File
 pub mod Step
-pub mod Run
 pub mod Answers
 pub mod Constants
 pub mod Promises

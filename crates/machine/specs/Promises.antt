@@ -1,11 +1,9 @@
--- Promises beyond the contracts; proofs/Promises.antt proves each under its name.
+-- Promises beyond the contracts; proofs/Promises.antt proves each under its name, and proofs/Readings.antt the last.
 -- Assumes nothing.
 use mathlib.Core.Bool.{Bool, true, false}
-use mathlib.Core.List.{List}
 use mathlib.Core.Logic.{_≢_}
 use mathlib.Core.Path.{_≡_}
 use Prim.Native.Nat.{ℕ, _+_, _*_}
-use lib.ListN.{drop}
 use Rattle.laws.specs.Answer.{accepted}
 use Rattle.insn.specs.declared.Insn.{Insn}
 use Rattle.names.specs.Names.{nameOf}
@@ -14,12 +12,10 @@ use Rattle.decode.specs.Reading.{reading}
 use Rattle.forms.specs.Promises.{listed}
 use Rattle.operations.specs.declared.Operation.{Operation}
 use Rattle.machine.specs.declared.Outcome.{Outcome}
-use Rattle.machine.specs.declared.run.Ran.{Ran}
-use Rattle.machine.specs.Answers.{outcomeAnswer, ranOf}
+use Rattle.machine.specs.Answers.{outcomeAnswer}
 use Rattle.machine.specs.File.{File, Good, readD}
 use Rattle.meanings.specs.Meaning.{Act, registers, meaningOf}
 use Rattle.operations.specs.Operations.{Sized}
-use Rattle.machine.specs.Run.{stopped, after, runOf, machineSteps}
 use Rattle.machine.specs.Step.{effect, stepInsn}
 
 -- a step keeps the file: 32 numbers of 64 bits
@@ -49,22 +45,6 @@ QuadHalves =
 -- an answer says which case it is
 abbrev pub OutcomesApart : Type 0
 OutcomesApart = (x y : Outcome) (f g : File) → outcomeAnswer x f ≡ outcomeAnswer y g → x ≡ y
-
-abbrev pub RunsApart : Type 0
-RunsApart = (x y : Ran) (f g : File) → ranOf x f ≡ ranOf y g → (x ≡ y) × (f ≡ g)
-
--- however a run ends, it leaves the file of the machine steps that it counts
-abbrev pub RunKept : Type 0
-RunKept =
-    (code : List ℕ) (start budget : ℕ) (file : File)
-    → let r = runOf code start file budget in machineSteps (r .executed) (drop (2 * start) code) file ≡ accepted (r .file)
-
--- where a budget was used up, a later call from that pair goes on
-abbrev pub GoesOn : Type 0
-GoesOn =
-    (code : List ℕ) (start b c : ℕ) (file : File)
-    → let r = runOf code start file b in r .ending ≡ stopped 15
-    → runOf code start file (b + c) ≡ after (r .executed) (runOf code (start + r .executed) (r .file) c)
 
 -- every pair that is read as a listed name has a meaning, so that 10 is for the other names alone
 pub record Meant (i : Insn) : Type 0 where

@@ -6,7 +6,7 @@ use Rattle.insn.specs.declared.Insn.{Insn}
 use Rattle.decode.specs.Reading.{reading}
 use Rattle.operations.specs.declared.Operation.{Operation}
 use Rattle.meanings.specs.declared.Registers.{Registers}
-use Rattle.machine.specs.File.{File, sizeOf, readR, writeR}
+use Rattle.machine.specs.File.{File, registerBits, readR, writeR}
 use Rattle.meanings.specs.Meaning.{Act, act, meaningOf}
 use Rattle.operations.specs.Operations.{resultOf}
 
@@ -14,7 +14,7 @@ use Rattle.operations.specs.Operations.{resultOf}
 unfoldable pub effect : Operation → Registers → File → File
 effect op r file =
     writeR (r .quad) file (r .d)
-    (resultOf (sizeOf (r .quad)) op (readR (r .quad) file (r .d)) (readR (r .quad) file (r .n)) (readR (r .quad) file (r .m)))
+    (resultOf (registerBits (r .quad)) op (readR (r .quad) file (r .d)) (readR (r .quad) file (r .n)) (readR (r .quad) file (r .m)))
 
 unfoldable pub stepBy : Answer Act → File → Answer File
 stepBy (accepted (act op r)) file = accepted (effect op r file)

@@ -1,16 +1,14 @@
-// The register machine: one instruction on a file of 32 doublewords, and runs of pairs.
+// The register machine: one instruction on a file of 32 doublewords.
 ghost use mathlib.Core.Path.{_≡_};
 ghost use Rattle.machine.specs.Answers.{steppedAnswer};
 ghost use Rattle.machine.specs.Step.{effect, stepInsn, stepPair, fileAfter};
 ghost use Rattle.meanings.specs.Own.{Within};
-use decode::Reading;
 use insn::Insn;
 use insn::Refusal;
 use meanings::Meaning;
 use meanings::Registers;
 use operations::Operation;
-
-pub mod run;
+use readings::Reading;
 
 // How a step ended.
 pub enum Outcome {

@@ -26,15 +26,15 @@ fn begins(line: &[u8; 100], names: &[u8; 4152], mnemonic: u16) -> bool {
     true
 }
 
-// The mnemonic with which the line begins; 346, which is none, where there is none.
+// The mnemonic with which the line begins; the number past the last, which is none, where there is none.
 fn mnemonic_of(line: &[u8; 100]) -> u16 {
     let names = names::table();
-    for m in 0..346u16 {
+    for m in 0..names::COUNT {
         if begins(line, &names, m) {
             return m;
         }
     }
-    346
+    names::COUNT
 }
 
 // The register at place k: D0, D2 or D4; Q0, Q1 or Q2.

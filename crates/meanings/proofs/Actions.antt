@@ -16,8 +16,8 @@ use Rattle.names.specs.Names.{nameOf}
 use Rattle.laws.specs.Search.{Found, at, none}
 use Rattle.laws.proofs.Never.{never}
 use Rattle.fields.specs.Registers.{Bits, bits, vecBits}
-use Rattle.immediates.specs.Floats.{floatBits}
-use Rattle.immediates.specs.Found.{findFloat}
+use Rattle.floats.specs.Floats.{floatBits}
+use Rattle.floats.specs.Found.{findFloat}
 use Rattle.immediates.specs.Modified.{copies}
 use Rattle.insn.specs.declared.Width.{Width}
 use Rattle.insn.specs.declared.Width.the-variants.{B8, B16, B32, B64}

@@ -12,8 +12,8 @@ use Rattle.insn.specs.Record.{valueOr}
 use Rattle.names.specs.Names.{nameOf}
 use Rattle.laws.specs.Search.{Found, at, none}
 use Rattle.fields.specs.Registers.{Bits, bits, vecBits}
-use Rattle.immediates.specs.Floats.{floatBits}
-use Rattle.immediates.specs.Found.{findFloat}
+use Rattle.floats.specs.Floats.{floatBits}
+use Rattle.floats.specs.Found.{findFloat}
 use Rattle.immediates.specs.Modified.{copies}
 use Rattle.laws.specs.Signed.{modulo}
 use Rattle.insn.specs.Widths.{bitsOf}

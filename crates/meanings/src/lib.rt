@@ -1,17 +1,18 @@
 // The meaning of a record: an operation and its registers.
 ghost use mathlib.Core.Path.{_≡_};
-ghost use Rattle.immediates.specs.Answers.{expansionAnswer, floatFoundAnswer};
+ghost use Rattle.floats.specs.Answers.{floatFoundAnswer};
+ghost use Rattle.immediates.specs.Answers.{expansionAnswer};
 ghost use Rattle.meanings.specs.Answers.{meaningAnswer};
 ghost use Rattle.meanings.specs.Meaning.{countOf, shiftBy, repeated, wholePattern, patternAt, floatPattern, on, meaningIn, meaningOf};
 ghost use Rattle.forms.specs.declared.Form.the-variants.{Shift, Number, Float};
 use fields::VectorBits;
+use floats::FloatFound;
+use floats::float_imm8;
 use forms::Direction;
 use forms::Form;
 use forms::form_of;
-use immediates::float::FloatFound;
-use immediates::float::float_imm8;
-use immediates::modified::Expansion;
-use immediates::modified::expand_imm;
+use immediates::Expansion;
+use immediates::expand_imm;
 use insn::Insn;
 use insn::Operand;
 use insn::Refusal;

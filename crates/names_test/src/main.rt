@@ -92,7 +92,7 @@ fn put_immediate(imm8: u8) {
     put(b"float ");
     put_number(imm8 as u64);
     put(b" ");
-    let value = immediates::modified::modimm_operand(0, 15, imm8);
+    let value = immediates::modimm_operand(0, 15, imm8);
     if let Operand::Float(x) = value {
         put_float(x);
     } else {

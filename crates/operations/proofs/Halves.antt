@@ -6,14 +6,15 @@ use native.Mathlib.Nat.{add-zero, add-comm, mul-comm, mul-add, mul-one, add-mul-
 use native.Mathlib.Omega.{arith}
 use lib.Bits.{bitAnd, bitOr, bitXor, and-block, or-block, xor-block, and-lt, or-lt, xor-lt}
 use lib.Pow.{pow-pos}
-use Rattle.lanes.proofs.Promises.{row, lanesBelow}
+use Rattle.lanes.proofs.Promises.{rowByHalves, lanesBelow}
 use Rattle.operations.specs.declared.BitOp.{BitOp}
 use Rattle.operations.specs.declared.BitOp.the-variants.{And, Orr, Eor, Bic, Orn, Mov, Bsl, Bit, Bif}
 use Rattle.operations.specs.declared.ConstantOp.{ConstantOp}
 use Rattle.operations.specs.declared.ConstantOp.the-variants as constant
 use Rattle.operations.specs.declared.Operation.{Operation}
 use Rattle.operations.specs.declared.Operation.the-variants.{Lanes, Bits, Constant}
-use Rattle.operations.specs.Operations.{inv, bitwise, withConstant, resultOf, Sized}
+use Rattle.arithmetic.specs.Whole.{inverted}
+use Rattle.operations.specs.Operations.{bitwise, withConstant, resultOf, Sized}
 
 -- x is the quadword of the doublewords l, low, and h
 pub record Halves (x l h : ℕ) : Type 0 where
@@ -58,9 +59,9 @@ turned p a b ha hb =
     let g : p * p ≡ p * b + p * (p - 1 - b) + p = ap (λ (n : ℕ). p * n) e ∙ f in
     omega arith
 
-over : {x a b : ℕ} → Halves x a b → Halves (inv 128 x) (inv 64 a) (inv 64 b)
+over : {x a b : ℕ} → Halves x a b → Halves (inverted 128 x) (inverted 64 a) (inverted 64 b)
 over {x} {a} {b} p = record {
-  whole = ap (λ (n : ℕ). inv 128 n) (p .whole) ∙ turned (2 ^ 64) a b (p .low) (p .high);
+  whole = ap (λ (n : ℕ). inverted 128 n) (p .whole) ∙ turned (2 ^ 64) a b (p .low) (p .high);
   low = omega arith;
   high = omega arith;
 }
@@ -91,7 +92,7 @@ pub result-halves : {x a b y c d z e g : ℕ} (op : Operation) → Sized op → 
     → Halves (resultOf 128 op x y z) (resultOf 64 op a c e) (resultOf 64 op b d g)
 unfolding resultOf
 result-halves {x} {a} {b} {y} {c} {d} {z} {e} {g} (Lanes op w) s p q r = record {
-  whole = rw (p .whole, q .whole, r .whole) (row op w a b c d e g (p .low) (q .low) (r .low));
+  whole = rw (p .whole, q .whole, r .whole) (rowByHalves op w a b c d e g (p .low) (q .low) (r .low));
   low = lanesBelow 64 op w a c e;
   high = lanesBelow 64 op w b d g;
 }

@@ -1,6 +1,5 @@
 -- The promises of specs/Promises.antt.
 -- Assumes nothing.
-use mathlib.Core.Path.{refl}
 use Rattle.operations.specs.Promises.{ByHalves}
 use Rattle.operations.proofs.Halves.{quad, result-halves}
 

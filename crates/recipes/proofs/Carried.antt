@@ -17,17 +17,17 @@ use Rattle.laws.specs.Signed.{twosComplement}
 use Rattle.laws.proofs.Range.{values, agree, agree2}
 use Rattle.laws.proofs.Search.{all-fail}
 use Rattle.insn.specs.declared.Operand.the-variants.{Imm}
-use Rattle.tables.specs.Modimm.{modimm}
+use Rattle.immediate_tables.specs.Modimm.{modimm}
 use Rattle.tables.specs.declared.ShiftClass.the-variants.{Right, Left}
 use Rattle.fields.specs.Halfwords.{bit, field}
 use Rattle.immediates.specs.Modified.{constantAt, element, operandIn, needsNonzero}
-use Rattle.immediates.specs.Shifts.{isEscape, rightEnd, leftStart, sizeCode}
-use Rattle.decode.specs.Shift.{forbidden, columnOf}
-use Rattle.values.specs.Numbers.{orNine}
-use Rattle.values.specs.Immediates as modified
-use Rattle.values.specs.Immediates.{immediateIn}
-use Rattle.values.specs.Amounts as shift
-use Rattle.values.specs.Amounts.{amountIn}
+use Rattle.amounts.specs.Shifts.{isEscape, rightEnd, leftStart, sizeCode}
+use Rattle.read_immediates.specs.Shift.{forbidden, columnOf}
+use Rattle.writings.specs.Numbers.{orNine}
+use Rattle.immediate_values.specs.Immediates as modified
+use Rattle.immediate_values.specs.Immediates.{immediateIn}
+use Rattle.amount_values.specs.Amounts as shift
+use Rattle.amount_values.specs.Amounts.{amountIn}
 use Rattle.insn.specs.Widths.{bitsAt}
 
 -- a search that one number passes finds a number

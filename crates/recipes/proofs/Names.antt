@@ -1,6 +1,6 @@
 -- The names that a sheet is translated to: their numbers and their homes, computed once.
 -- Assumes nothing.
-use mathlib.Core.Path.{_≡_, refl, ap}
+use mathlib.Core.Path.{_≡_, refl, ap, _∙_}
 use mathlib.Core.Bool.{Bool, true, false}
 use mathlib.Core.List.{List, [], _∷_}
 use Prim.Native.Nat.{ℕ, _+_, _/_, _<_}
@@ -13,17 +13,14 @@ use Rattle.homes.specs.declared.Home.{Home}
 use Rattle.homes.specs.declared.Home.the-variants.{Same3, Shift, Modimm, Vmov}
 use Rattle.tables.specs.declared.ShiftClass.{ShiftClass}
 use Rattle.tables.specs.declared.ShiftClass.the-variants.{Right, Left}
-use Rattle.tables.specs.Diff.{diffRows, diffCells}
-use Rattle.homes.specs.Home.{placeIn, otherHome, homeOf}
-use Rattle.tables.specs.Modimm.{modimm}
-use Rattle.tables.specs.Cells.{cellsOf}
+use Rattle.homes.specs.Home.{homeOf}
+use Rattle.homes.proofs.Homes.{homes, listedHome, home-named}
 use Rattle.names.specs.Names.{names, nameOf, numberOf, pairwise}
-use Rattle.tables.specs.Same3.{same3}
-use Rattle.tables.specs.Shift.{shiftClasses, shiftRows, shiftCells, vmovl}
+use Rattle.immediate_tables.specs.Shift.{shiftClasses, shiftRows}
 use Rattle.fields.specs.Halfwords.{field}
 use Rattle.recipes.specs.Naming.{signed, sized}
 
--- what is asked of a name: its number, the name of that number, where it is written, whether it is pairwise
+-- what is asked of a name: its number, the name of that number, that number's home in the list of homes, whether it is pairwise
 record Facts : Type 0 where
   number : ℕ
   back : String
@@ -31,7 +28,7 @@ record Facts : Type 0 where
   paired : Bool
 
 abbrev found : Bool → String → Facts
-found amount name = record { number = numberOf name; back = nameOf (numberOf name); home = homeOf name amount; paired = pairwise name }
+found amount name = record { number = numberOf name; back = nameOf (numberOf name); home = listedHome amount (numberOf name); paired = pairwise name }
 
 abbrev claimed : String → ℕ → Home → Facts
 claimed name number home = record { number = number; back = name; home = home; paired = false }
@@ -47,7 +44,7 @@ known : (amount : Bool) (name : String) (number : ℕ) (home : Home) → found a
 known amount name number home e = record {
   numbered = ap (λ (f : Facts). f .number) e;
   back = ap (λ (f : Facts). f .back) e;
-  placed = ap (λ (f : Facts). f .home) e;
+  placed = home-named (numberOf name) name (ap (λ (f : Facts). f .back) e) amount ∙ ap (λ (f : Facts). f .home) e;
   single = ap (λ (f : Facts). f .paired) e;
 }
 
@@ -113,7 +110,7 @@ computed :
     ∷ said-one "vmov.i64" 271 (Modimm 30)
     ∷ said-one "vmov" 345 Vmov
     ∷ [])
-unfolding values names nameOf numberOf homeOf otherHome placeIn cellsOf same3 shiftRows shiftCells vmovl modimm diffRows diffCells pairwise
+unfolding values names nameOf numberOf homes pairwise
 computed = refl
 
 -- row k of it

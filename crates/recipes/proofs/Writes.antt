@@ -1,6 +1,6 @@
 -- Records that are written as a pair.
 -- Assumes nothing.
-use mathlib.Core.Path.{_≡_, refl, ap}
+use mathlib.Core.Path.{_≡_, refl}
 use mathlib.Core.Bool.{Bool, true, false}
 use mathlib.Core.List.{List, [], _∷_, _++_}
 use Prim.Native.Nat.{ℕ, _+_, _*_, _<_}
@@ -20,13 +20,13 @@ use Rattle.tables.specs.declared.ShiftClass.{ShiftClass}
 use Rattle.names.specs.Names.{pairwise}
 use Rattle.fields.specs.Halfwords.{field}
 use Rattle.fields.specs.Registers.{vecBits}
-use Rattle.decode.specs.Same3.{shiftsByRegister}
-use Rattle.encode.specs.Forms.{Pair, pair, isQuad, isNumber, registerIn, allThree}
-use Rattle.encode.specs.Modimm.{modimmPair, modimmWriting}
-use Rattle.values.specs.Immediates.{immediateIn}
-use Rattle.encode.specs.Same3.{same3Pair, same3Form, same3Writing, vorrCell, vmovWriting}
-use Rattle.encode.specs.Shift.{bitB, shiftPair, shiftClassed}
-use Rattle.values.specs.Amounts.{amountIn}
+use Rattle.read_registers.specs.Same3.{shiftsByRegister}
+use Rattle.writings.specs.Forms.{Pair, pair, isQuad, isNumber, registerIn, allThree}
+use Rattle.write_immediates.specs.Modimm.{modimmPair, modimmWriting}
+use Rattle.immediate_values.specs.Immediates.{immediateIn}
+use Rattle.write_registers.specs.Same3.{same3Pair, same3Form, same3Writing, vorrCell, vmovWriting}
+use Rattle.write_immediates.specs.Shift.{bitB, shiftPair, shiftClassed}
+use Rattle.amount_values.specs.Amounts.{amountIn}
 use Rattle.encode.specs.Writing.{writing}
 use Rattle.laws.proofs.Tests.{both-no}
 use Rattle.recipes.specs.Pairs.{halfwordsOf, twoOf, threeOf}

@@ -13,8 +13,8 @@ use Rattle.insn.specs.declared.Mark.the-variants.{T1}
 use Rattle.insn.specs.declared.Operand.{Operand}
 use Rattle.insn.specs.declared.Operand.the-variants.{D, Q, Imm, Absent}
 use Rattle.names.specs.Names.{numberOf}
-use Rattle.decode.specs.Operands.{insn}
-use Rattle.encode.specs.Forms.{Pair, pair}
+use Rattle.readings.specs.Operands.{insn}
+use Rattle.writings.specs.Forms.{Pair, pair}
 use Rattle.encode.specs.Writing.{writing}
 use Rattle.steps.specs.declared.Step.{Step}
 use Rattle.recipes.specs.declared.Recipe.{Recipe}

@@ -10,6 +10,7 @@ pub enum Recipe {
     Joined(u32, u32),
 }
 
+// How a half of a constant is made.
 pub fn recipe_of(v: u64) -> Recipe
     ensures { λ r. ⌜ r ≡ recipeOf v ⌝ }
 {

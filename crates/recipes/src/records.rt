@@ -9,7 +9,7 @@ ghost use lib.IntN.{pos};
 ghost use Rattle.laws.specs.Choice.{choose};
 ghost use Rattle.insn.specs.declared.Mark.the-variants.{T1};
 ghost use Rattle.insn.specs.declared.Operand.the-variants.{D, Q, Imm, Absent};
-ghost use Rattle.decode.specs.Operands.{insn as recordOf};
+ghost use Rattle.readings.specs.Operands.{insn as recordOf};
 ghost use Rattle.recipes.specs.Pairs.{immediate as immediateOf, pairsBy, twoOf, threeOf};
 ghost use Rattle.steps.specs.Rules.{keeps};
 use insn::Insn;

@@ -4,16 +4,19 @@ ghost use Prim.Native.Nat.{_<_};
 ghost use Rattle.replay.specs.Lines.{numberAt, FileAt, sameNumbers, recordIn, digitValue};
 use libc::STDOUT_FILENO;
 
+// Writes a text.
 pub fn put(text: &[u8]) {
     io::write_all(STDOUT_FILENO, text);
 }
 
+// Writes what is counted, and the count.
 pub fn put_count(what: &[u8], n: u64) {
     put(what);
     io::print_decimal(STDOUT_FILENO, n);
     put(b"\n");
 }
 
+// Writes how many cases got the refusal k.
 pub fn put_refused(k: u64, n: u64) {
     put(b"refused ");
     io::print_decimal(STDOUT_FILENO, k);
@@ -59,6 +62,7 @@ pub fn file_at(line: &[u8], at: u16) -> [u64; 32]
     file
 }
 
+// Whether two files are the same.
 pub fn same_file(a: [u64; 32], b: [u64; 32]) -> bool
     ensures { λ r. ⌜ r ≡ sameNumbers a b ⌝ }
 {

@@ -12,9 +12,9 @@ use Rattle.insn.specs.declared.Operand.{Operand}
 use Rattle.insn.specs.declared.Operand.the-variants.{Absent}
 use Rattle.insn.specs.Record.{placeAt}
 use Rattle.names.specs.Names.{names, nameOf, numberOf}
-use Rattle.decode.specs.Operands.{insn}
+use Rattle.readings.specs.Operands.{insn}
 use Rattle.laws.specs.Choice.{both}
-use Rattle.encode.specs.Forms.{pair}
+use Rattle.writings.specs.Forms.{pair}
 use Rattle.trips.specs.Spelling.{Spelling, Held, spelled, sameRegister, movedName, renamed, canonical}
 use Rattle.encode.specs.Writing.{writing}
 use Rattle.trips.proofs.Canonical.{spelt, as-spelt, as-vmov}

@@ -10,7 +10,7 @@ use Rattle.meanings.specs.declared.Registers.{Registers}
 use Rattle.machine.specs.File.{File, Good}
 use Rattle.meanings.specs.Meaning.{Act, act}
 use Rattle.operations.specs.Operations.{Sized}
-use Rattle.machine.specs.Run.{stepsBy, machineSteps}
+use Rattle.runs.specs.Run.{stepsBy, machineSteps}
 use Rattle.machine.specs.Step.{effect}
 use Rattle.machine.proofs.Steps.{effect-good}
 use Rattle.recipes.specs.Pairs.{halfwordsOf}

@@ -8,7 +8,6 @@ use lib.IntN.{pos}
 use lib.Text.{eqt}
 use borrow.Author.Tests.{lt-ltb, le-leb}
 use Rattle.laws.specs.Answer.{accepted}
-use Rattle.laws.specs.Choice.{choose}
 use Rattle.insn.specs.declared.Insn.{Insn}
 use Rattle.insn.specs.declared.Operand.{Operand}
 use Rattle.insn.specs.declared.Operand.the-variants.{D, Q, Imm, Absent}
@@ -18,8 +17,8 @@ use Rattle.tables.specs.declared.ShiftClass.{ShiftClass}
 use Rattle.names.specs.Names.{numberOf}
 use Rattle.fields.specs.Registers.{bits, vecBits}
 use Rattle.laws.specs.Signed.{modulo}
-use Rattle.values.specs.Immediates.{immediateIn}
-use Rattle.values.specs.Amounts.{amountIn}
+use Rattle.immediate_values.specs.Immediates.{immediateIn}
+use Rattle.amount_values.specs.Amounts.{amountIn}
 use Rattle.trips.specs.Spelling.{Held, movedName}
 use Rattle.insn.specs.declared.Width.{Width}
 use Rattle.operations.specs.declared.BitOp.the-variants.{Mov}
@@ -39,7 +38,7 @@ use Rattle.recipes.proofs.Names.{Known, Classed, copy-known}
 use Rattle.recipes.proofs.Writes.{Writes, Is, quad-is, double-is, Alike, three-writes, copy-writes, shift-writes, number-writes}
 use Rattle.sheet.proofs.Back.{three-back, two-back}
 use Rattle.laws.proofs.Signed.{modulo-pos}
-use Rattle.lanes.proofs.Numbers.{cut64}
+use Rattle.arithmetic.proofs.Numbers.{cut64}
 use Rattle.immediates.specs.Modified.{copies}
 use Rattle.insn.specs.Widths.{bitsOf}
 use Rattle.insn.specs.declared.Width.the-variants.{B8, B16, B32, B64}

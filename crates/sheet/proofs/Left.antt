@@ -15,7 +15,8 @@ use lib.Signed.{shrZ}
 use borrow.Author.Tests.{eqb-true}
 use Rattle.laws.specs.Choice.{choose}
 use Rattle.laws.proofs.Range.{values, agree}
-use Rattle.lanes.specs.Lane.{readAs, laneOf, lanesOf}
+use Rattle.arithmetic.specs.Whole.{readAs, inverted}
+use Rattle.lanes.specs.Lane.{laneOf, lanesOf}
 use Rattle.insn.specs.Widths.{bitsOf, bitsAt, widthAt}
 use Rattle.laws.specs.Signed.{modulo}
 use Rattle.lanes.specs.declared.LaneOp.{LaneOp}
@@ -33,7 +34,7 @@ use Rattle.operations.specs.Operations.{resultOf}
 use Rattle.machine.specs.Step.{effect}
 use Rattle.machine.proofs.Steps.{effect-size}
 use Rattle.steps.specs.declared.Step.{Step}
-use Rattle.steps.specs.Meaning.{paired, rowsOf, rowAt, signOf, eachLane, inverted}
+use Rattle.steps.specs.Meaning.{paired, rowsOf, rowAt, signOf, eachLane}
 use Rattle.steps.specs.Meaning as sheet
 use Rattle.recipes.specs.Pairs.{halfPairs, recipeOf}
 use Rattle.steps.specs.Rules.{table, usesOf}
@@ -127,7 +128,7 @@ module _ (s : Step) (file : File) (g : Good file) where
         e1,
         getD-set-same r0 14 0 0 (omega arith),
         getD-set-other r0 14 (s .a) 0 0 (λ z. let b : ⊥ = omega arith in b),
-        or-zero-l (inverted (rowAt r0 (s .a))),
+        or-zero-l (inverted 128 (rowAt r0 (s .a))),
         take-set-lt 14 (set r0 14 0) t _ ht,
         take-set-le 14 r0 14 0 (omega arith),
         getD-take 14 r0 (s .a) 0 ha,
@@ -143,7 +144,7 @@ module _ (s : Step) (file : File) (g : Good file) where
       let hb = p .b in
       let hc = p .c in
       let picker = rowAt r0 (s .c) in
-      let choice = bitOr (bitAnd (rowAt r0 (s .a)) picker) (bitAnd (rowAt r0 (s .b)) (inverted picker)) in
+      let choice = bitOr (bitAnd (rowAt r0 (s .a)) picker) (bitAnd (rowAt r0 (s .b)) (inverted 128 picker)) in
       let f1 = effect (Bits Mov) (registers true (2 * 14) (2 * s .c) (2 * s .c)) file in
       let f2 = effect (Bits Bsl) (registers true (2 * 14) (2 * s .a) (2 * s .b)) f1 in
       let z1 = effect-size (Bits Mov) file (registers true (2 * 14) (2 * s .c) (2 * s .c)) ∙ g .size in

@@ -11,7 +11,6 @@ use lib.Text.{eqt}
 use Rattle.laws.specs.Choice.{choose}
 use Rattle.laws.proofs.Range.{values, agree}
 use Rattle.trips.specs.Spelling.{movedName}
-use Rattle.lanes.specs.declared.LaneOp.{LaneOp}
 use Rattle.lanes.specs.declared.LaneOp.the-variants.{Add, Sub, Mul, Max, Min, Cgt}
 use Rattle.insn.specs.declared.Sign.{Sign}
 use Rattle.insn.specs.declared.Sign.the-variants.{Unsigned, Signed}
@@ -19,7 +18,6 @@ use Rattle.insn.specs.declared.Width.{Width}
 use Rattle.insn.specs.declared.Width.the-variants.{B32, B64}
 use Rattle.operations.specs.declared.BitOp.the-variants as bit
 use Rattle.operations.specs.declared.ConstantOp.the-variants as constant
-use Rattle.forms.specs.declared.Direction.{Direction}
 use Rattle.forms.specs.declared.Direction.the-variants as way
 use Rattle.forms.specs.declared.Form.{Form}
 use Rattle.forms.specs.declared.Form.the-variants as form

@@ -3,7 +3,7 @@
 use mathlib.Core.Path.{_≡_, ap}
 use Rattle.laws.proofs.Never.{never}
 use Rattle.insn.proofs.Promises.{numberedApart}
-use Rattle.machine.proofs.Promises.{runsApart}
+use Rattle.runs.proofs.Promises.{runsApart}
 use Rattle.sheet.specs.declared.Evaluation.the-variants.{Ran, Refused, RefusedAt}
 use Rattle.sheet.specs.Promises.{SheetsHold, EvaluationsApart}
 use Rattle.sheet.proofs.Whole.{sheets-hold}

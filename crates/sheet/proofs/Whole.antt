@@ -10,9 +10,9 @@ use Rattle.laws.specs.Answer as stepping
 use Rattle.laws.specs.AnswerAt.{AnswerAt, accepted, refused, refusedAt}
 use Rattle.laws.proofs.Never.{never}
 use Rattle.machine.specs.File.{File}
-use Rattle.machine.specs.Run.{Run, done, runOf, machineSteps}
-use Rattle.machine.proofs.Promises.{runKept}
-use Rattle.machine.proofs.Runs.{all-run, runs-from-start}
+use Rattle.runs.specs.Run.{Run, done, runOf, machineSteps}
+use Rattle.runs.proofs.Promises.{runKept}
+use Rattle.runs.proofs.Runs.{all-run, runs-from-start}
 use Rattle.sheet.specs.Demand3.{doneAfter, Demand3}
 use Rattle.sheet.specs.Evaluation.{evaluatedBy, evaluationOf, fileLeft}
 use Rattle.steps.specs.Meaning.{rowsOf, meaning}

@@ -2,9 +2,9 @@
 -- Assumes nothing.
 use Rattle.laws.specs.AnswerAt.{AnswerAt, accepted, refused, refusedAt}
 use Rattle.insn.specs.Refusals.{number}
-use Rattle.machine.specs.Answers.{ranOf}
+use Rattle.runs.specs.Answers.{ranOf}
 use Rattle.machine.specs.File.{File}
-use Rattle.machine.specs.Run.{Run}
+use Rattle.runs.specs.Run.{Run}
 use Rattle.sheet.specs.declared.Evaluation.{Evaluation}
 use Rattle.sheet.specs.declared.Evaluation.the-variants.{Ran, Refused, RefusedAt}
 

@@ -8,7 +8,7 @@ use lib.ListN.{length, take, drop}
 use Rattle.laws.specs.Answer as stepping
 use Rattle.laws.specs.AnswerAt.{AnswerAt, accepted}
 use Rattle.machine.specs.File.{File}
-use Rattle.machine.specs.Run.{Run, done, machineSteps}
+use Rattle.runs.specs.Run.{Run, done, machineSteps}
 use Rattle.steps.specs.declared.Step.{Step}
 use Rattle.steps.specs.Meaning.{rowsOf, meaning}
 use Rattle.recipes.specs.Pairs.{pairsBy, halfwordsOf}

@@ -5,7 +5,7 @@ use Prim.Native.Nat.{ℕ, _*_}
 use lib.ListN.{length, take}
 use Rattle.laws.specs.AnswerAt.{AnswerAt, accepted, refused, refusedAt}
 use Rattle.machine.specs.File.{File}
-use Rattle.machine.specs.Run.{Run, runOf}
+use Rattle.runs.specs.Run.{Run, runOf}
 use Rattle.translator.specs.Translation.{translationOf, writtenOf}
 
 -- the run of the output's first 2n halfwords from pair 0, or the translation's refusal

@@ -5,8 +5,8 @@ ghost use Rattle.sheet.specs.Answers.{evaluationAnswer};
 ghost use Rattle.sheet.specs.Demand3.{Demand3};
 ghost use Rattle.sheet.specs.Evaluation.{evaluationOf, fileLeft};
 use insn::Refusal;
-use machine::run::Ran;
-use machine::run::run;
+use runs::Ran;
+use runs::run;
 use translator::Translation;
 use translator::translate;
 

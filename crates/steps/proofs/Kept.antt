@@ -1,12 +1,11 @@
 -- What a step that keeps the rules is known for.
 -- Assumes nothing.
-use mathlib.Core.Path.{_≡_, refl, sym, _∙_, subst}
-use mathlib.Core.Bool.{Bool, true, false, _&&_}
+use mathlib.Core.Path.{_≡_, sym, _∙_, subst}
+use mathlib.Core.Bool.{true, false}
 use Prim.Native.Nat.{ℕ, _<_, _≤_}
 use native.Mathlib.Omega.{arith}
 use lib.Dec.{leb}
 use borrow.Author.Tests.{ltb-true, lt-leb, leb-true}
-use Rattle.laws.proofs.Never.{wrong}
 use Rattle.steps.specs.declared.Step.{Step}
 use Rattle.steps.specs.Own.{limit}
 use Rattle.steps.specs.Rules.{Use, aRow, Uses, usesOf, keepsRows, keepsNumbers, keeps, allows}

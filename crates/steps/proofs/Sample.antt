@@ -1,10 +1,11 @@
 -- A step of each kind on the same rows, worked out by hand.
 -- Assumes nothing.
 use mathlib.Core.Path.{_≡_, refl}
-use mathlib.Core.List.{List, [], _∷_}
+use mathlib.Core.List.{[], _∷_}
 use Prim.Native.Nat.{ℕ, _+_, _-_, _*_, _^_}
 use Rattle.laws.proofs.Range.{values}
-use Rattle.lanes.specs.Lane.{readAs, greater, lesser, onesIf, lanewise}
+use Rattle.arithmetic.specs.Whole.{readAs, greater, lesser, onesIf}
+use Rattle.lanes.specs.Lane.{lanewise}
 use Rattle.laws.specs.Signed.{twosComplement, modulo}
 use Rattle.steps.specs.declared.Step.{Step}
 use Rattle.steps.specs.Meaning.{eachLane, valueTable, valueBy}

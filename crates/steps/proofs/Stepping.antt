@@ -1,6 +1,6 @@
 -- The steps of a sheet, one after another, and their first fault.
 -- Assumes nothing.
-use mathlib.Core.Path.{_≡_, refl, sym, _∙_, ap}
+use mathlib.Core.Path.{_≡_, refl, ap}
 use mathlib.Core.Bool.{Bool, true, false}
 use mathlib.Core.List.{List, [], _∷_, _++_}
 use Prim.Native.Nat.{ℕ, zero, suc, _+_, _-_, _*_, _≤_, _<_}
@@ -11,7 +11,7 @@ use lib.ListN.{length}
 use Rattle.laws.specs.Choice.{choose}
 use Rattle.laws.proofs.Never.{never}
 use Rattle.steps.specs.declared.Step.{Step}
-use Rattle.steps.specs.Rules.{keeps, AllKeep, Fault, sound, fault, firstFault, firstOf}
+use Rattle.steps.specs.Rules.{keeps, AllKeep, sound, fault, firstFault, firstOf}
 use Rattle.steps.specs.Steps.{stepAt, stepsFrom}
 
 pub steps-length : (s : List ℕ) (k n : ℕ) → length (stepsFrom s k n) ≡ n

@@ -8,7 +8,8 @@ use lib.IntN.{ℤ, pos, _+ℤ_, _-ℤ_, _*ℤ_}
 use lib.ListN.{getD, set, take}
 use lib.Signed.{ltZ, shrZ}
 use Rattle.laws.specs.Choice.{choose}
-use Rattle.lanes.specs.Lane.{readAs, greater, lesser, onesIf, lanewise}
+use Rattle.arithmetic.specs.Whole.{readAs, greater, lesser, onesIf, inverted}
+use Rattle.lanes.specs.Lane.{lanewise}
 use Rattle.laws.specs.Signed.{modulo}
 use Rattle.insn.specs.declared.Sign.{Sign}
 use Rattle.insn.specs.declared.Sign.the-variants.{Unsigned, Signed}
@@ -38,10 +39,6 @@ signOf sign = choose (eqb sign 1) Signed Unsigned
 unfoldable pub eachLane : ℕ → (ℕ → ℕ → ℤ) → ℕ → ℕ → ℕ
 eachLane w f a b = lanewise (λ _ x y. modulo w (f x y)) w w w (128 / w) 0 a b
 
--- each bit of a row turned over
-abbrev pub inverted : ℕ → ℕ
-inverted a = 2 ^ 128 - 1 - a
-
 -- The value that a step of each kind puts in its target. a, b and c are the rows that it reads, w the bits of a lane.
 unfoldable pub valueTable : Step → ℕ → ℕ → ℕ → ℕ → List ℕ
 valueTable s w a b c =
@@ -54,13 +51,13 @@ valueTable s w a b c =
     ∷ bitAnd a b  -- 5
     ∷ bitOr a b  -- 6
     ∷ bitXor a b  -- 7
-    ∷ inverted a  -- 8
+    ∷ inverted 128 a  -- 8
     ∷ eachLane w (λ x y. pos x *ℤ pos (2 ^ s .amount)) a a  -- 9
     ∷ eachLane w (λ x y. shrZ (lane x) (2 ^ s .amount)) a a  -- 10
     ∷ eachLane w (λ x y. greater (lane x) (lane y)) a b  -- 11
     ∷ eachLane w (λ x y. lesser (lane x) (lane y)) a b  -- 12
     ∷ eachLane w (λ x y. onesIf (ltZ (lane x) (lane y)) w) a b  -- 13
-    ∷ bitOr (bitAnd a c) (bitAnd b (inverted c))  -- 14
+    ∷ bitOr (bitAnd a c) (bitAnd b (inverted 128 c))  -- 14
     ∷ []
 
 unfoldable pub valueBy : ℕ → Step → List ℕ → ℕ

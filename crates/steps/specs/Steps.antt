@@ -1,15 +1,10 @@
 -- The bytes of a sum sheet, as steps of 24: document 01, 'Sum sheet'.
 -- Assumes nothing.
 use mathlib.Core.List.{List, [], _∷_}
-use Prim.Native.Nat.{ℕ, zero, suc, _+_, _*_, _/_, _^_}
+use Prim.Native.Nat.{ℕ, zero, suc, _+_, _*_, _/_}
 use lib.ListN.{length, getD}
+use Rattle.little_endian.specs.Word.{wordAt}
 use Rattle.steps.specs.declared.Step.{Step}
-
--- a word of 64 bits from place i, the lowest byte first
-unfoldable pub wordAt : List ℕ → ℕ → ℕ
-wordAt bytes i =
-    getD bytes i 0 + 2 ^ 8 * getD bytes (i + 1) 0 + 2 ^ 16 * getD bytes (i + 2) 0 + 2 ^ 24 * getD bytes (i + 3) 0
-    + 2 ^ 32 * getD bytes (i + 4) 0 + 2 ^ 40 * getD bytes (i + 5) 0 + 2 ^ 48 * getD bytes (i + 6) 0 + 2 ^ 56 * getD bytes (i + 7) 0
 
 -- the step whose first byte is at place i
 unfoldable pub stepAt : List ℕ → ℕ → Step

@@ -9,16 +9,11 @@ use lib.Dec.{eqb}
 use lib.Text.{eqt}
 use lib.Arith.{digits-div, digits-mod}
 use lib.ListN.{length, getD, List·getD-eq-default}
-use native.Mathlib.Omega.{arith}
 use borrow.Author.Tests.{eqb-true}
 use Rattle.laws.specs.Choice.{choose}
 use Rattle.laws.proofs.Never.{wrong}
-use Rattle.laws.proofs.Range.{values, agree}
 use Rattle.names.specs.Names.{names, nameOf, numberOf, blank}
 use Rattle.tables.specs.Cells.{cellAt}
-use Rattle.tables.specs.Same3.{same3}
-use Rattle.tables.specs.Shift.{shiftRows, shiftCells}
-use Rattle.tables.proofs.Known.{same3-known, shift-known}
 
 -- the cell at a place of a table of four columns
 abbrev pub cell4 : List (List String) → ℕ → String
@@ -51,7 +46,7 @@ fromByte b = choose (eqb b 255) blank b
 abbrev pub byteAt : List (List String) → ℕ → ℕ
 byteAt table k = toByte (numberOf (cell4 table k))
 
-byte-back : (n : ℕ) → eqb n 255 ≡ false → fromByte (toByte n) ≡ n
+pub byte-back : (n : ℕ) → eqb n 255 ≡ false → fromByte (toByte n) ≡ n
 byte-back n h = go (eqb n blank) refl
   where
     go : (t : Bool) → eqb n blank ≡ t → fromByte (choose t 255 n) ≡ n
@@ -59,24 +54,10 @@ byte-back n h = go (eqb n blank) refl
     go false e = rw h
 
 -- 255 is the number of a name of VSHLL by 0
-not-byte : (s : String) → nameOf (numberOf s) ≡ s → eqt s "vmovl.s8" ≡ false → eqb (numberOf s) 255 ≡ false
+pub not-byte : (s : String) → nameOf (numberOf s) ≡ s → eqt s "vmovl.s8" ≡ false → eqb (numberOf s) 255 ≡ false
 unfolding names nameOf
 not-byte s known other = go (eqb (numberOf s) 255) refl
   where
     go : (t : Bool) → eqb (numberOf s) 255 ≡ t → eqb (numberOf s) 255 ≡ false
     go false e = e
     go true e = wrong (sym other ∙ ap (λ (x : String). eqt x "vmovl.s8") (sym known ∙ ap nameOf (eqb-true (numberOf s) 255 e)))
-
-pub same3-byte : (k : ℕ) → k < 256 → fromByte (byteAt same3 k) ≡ numberOf (cell4 same3 k)
-unfolding values same3
-same3-byte k h =
-    byte-back _
-    (not-byte _ (same3-known (k / 4) (k % 4) (omega arith) (omega arith))
-    (agree (λ (k : ℕ). eqt (cell4 same3 k) "vmovl.s8") (λ (k : ℕ). false) 256 refl k h))
-
-pub shift-byte : (k : ℕ) → k < 256 → fromByte (byteAt shiftCells k) ≡ numberOf (cell4 shiftCells k)
-unfolding values shiftRows shiftCells
-shift-byte k h =
-    byte-back _
-    (not-byte _ (shift-known (k / 4) (k % 4) (omega arith) (omega arith))
-    (agree (λ (k : ℕ). eqt (cell4 shiftCells k) "vmovl.s8") (λ (k : ℕ). false) 256 refl k h))

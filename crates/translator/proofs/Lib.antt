@@ -1,4 +1,2 @@
 pub mod Promises
-pub mod Puts
-pub mod Stepping
 pub mod Translations

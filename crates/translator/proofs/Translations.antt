@@ -18,7 +18,7 @@ use Rattle.laws.proofs.Placed.{whole}
 use Rattle.steps.specs.Rules.{Fault, sound, fault, firstFault}
 use Rattle.steps.specs.Steps.{stepsOf}
 use Rattle.steps.proofs.Stepping.{all-keep, keep-all}
-use Rattle.translator.specs.Own.{brokenAt}
+use Rattle.measure.specs.Own.{brokenAt}
 use Rattle.recipes.specs.Pairs.{halfwordsOf}
 use Rattle.translator.specs.Translation.{recordsOf, unlessFault, translationOf, writtenBy, writtenOf, Translates}
 use Rattle.recipes.proofs.ByKind.{sheet-written}

@@ -1,4 +1,3 @@
 pub mod Translation
 pub mod Answers
 pub mod Promises
-pub mod Own

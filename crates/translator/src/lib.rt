@@ -7,9 +7,6 @@ use emit::put_steps;
 use insn::Refusal;
 use measure::measure;
 
-mod emit;
-mod measure;
-
 // What a translation answers: the pair count; or the refusal, with the index of its step where it has one.
 pub enum Translation {
     Pairs(u64),

@@ -14,7 +14,7 @@ use Rattle.homes.specs.declared.Home.the-variants.{Same3, Shift, Vmovl, Modimm,
 use Rattle.decode.specs.Reading.{reading, familyOf, inFamily}
 use Rattle.decode.specs.declared.Family.{Family}
 use Rattle.decode.specs.declared.Family.the-variants.{ThreeSame, ThreeDifferent, Shift as shift, ModifiedImmediate, NoFamily}
-use Rattle.encode.specs.Forms.{pair, isNumber}
+use Rattle.writings.specs.Forms.{pair, isNumber}
 use Rattle.trips.specs.Spelling.{spelling, canonical, withMark}
 use Rattle.encode.specs.Writing.{inHome, writing}
 use Rattle.trips.specs.Promises.{ReadThenWritten, ReadsAs, WrittenThenRead}

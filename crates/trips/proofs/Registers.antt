@@ -8,15 +8,12 @@ use borrow.Author.Tests.{eqb-true}
 use Rattle.laws.specs.Answer.{Answer, accepted, refused, andThen}
 use Rattle.laws.specs.Choice.{choose, both}
 use Rattle.laws.proofs.Never.{never, wrong}
-use Rattle.insn.specs.declared.Insn.{Insn}
-use Rattle.insn.specs.declared.Mark.{Mark}
 use Rattle.insn.specs.declared.Operand.{Operand}
-use Rattle.insn.specs.declared.Operand.the-variants.{D, Q, Absent}
+use Rattle.insn.specs.declared.Operand.the-variants.{D, Q}
 use Rattle.fields.specs.Registers.{Bits, bits, vecOf, vecBits}
 use Rattle.fields.proofs.Promises.{bitsOfVec, vecOfBits}
-use Rattle.decode.specs.Operands.{insn}
-use Rattle.decode.specs.Operands as Read
-use Rattle.encode.specs.Forms.{isQuad, isNumber, ofLength, registerIn, allThree, numbers}
+use Rattle.readings.specs.Operands as Read
+use Rattle.writings.specs.Forms.{isQuad, isNumber, ofLength, registerIn, allThree, numbers}
 use Rattle.trips.specs.Spelling.{sameBits, sameRegister, isZero}
 use Rattle.laws.proofs.Tests.{both-true}
 

@@ -1,6 +1,6 @@
 -- Three registers of different lengths: written and read again, and read and written again.
 -- Assumes nothing.
-use mathlib.Core.Path.{_≡_, refl, sym, ap, _∙_}
+use mathlib.Core.Path.{_≡_, refl, ap, _∙_}
 use mathlib.Core.Bool.{Bool, false, not}
 use Prim.Native.Nat.{ℕ, _+_, _*_, _/_, _%_, _<_}
 use native.Mathlib.Omega.{arith}
@@ -19,10 +19,10 @@ use Rattle.insn.specs.declared.Operand.{Operand}
 use Rattle.insn.specs.Record.{placeAt}
 use Rattle.tables.specs.Cells.{cellAt}
 use Rattle.names.specs.Names.{nameOf, numberOf}
-use Rattle.tables.specs.Diff.{diffRows, diffCells, diffShapes, diffMarks}
+use Rattle.register_tables.specs.Diff.{diffRows, diffCells, diffShapes, diffMarks}
 use Rattle.homes.specs.Home.{homeOf}
 use Rattle.tables.specs.declared.DiffShape.{DiffShape}
-use Rattle.tables.specs.declared.DiffShape.the-variants.{Long, Wide, Narrow}
+use Rattle.tables.specs.declared.DiffShape.the-variants.{Long}
 use Rattle.homes.specs.declared.Home.the-variants.{Diff}
 use Rattle.tables.proofs.Cells.{cell4}
 use Rattle.names.proofs.Known.{named}
@@ -32,19 +32,19 @@ use Rattle.fields.specs.Halfwords.{bit, field, first, second}
 use Rattle.fields.specs.Registers.{dnumOf, vecOf}
 use Rattle.fields.specs.Promises.{FirstFields, SecondFields}
 use Rattle.fields.proofs.Promises.{firstUnpacked, secondUnpacked, firstPacked, secondPacked}
-use Rattle.decode.specs.Operands.{insn}
-use Rattle.decode.specs.Operands as Read
-use Rattle.decode.specs.Diff.{diffOf, diffReading}
+use Rattle.readings.specs.Operands.{insn}
+use Rattle.readings.specs.Operands as Read
+use Rattle.read_registers.specs.Diff.{diffOf, diffReading}
 use Rattle.decode.specs.Reading.{reading, inFamily}
-use Rattle.encode.specs.Forms.{Pair, pair, registerIn, Three, allThree, numbers}
-use Rattle.encode.specs.Diff.{diffPair, diffForm, diffShaped, diffWriting}
+use Rattle.writings.specs.Forms.{Pair, pair, registerIn, Three, allThree, numbers}
+use Rattle.write_registers.specs.Diff.{diffPair, diffForm, diffShaped, diffWriting}
 use Rattle.trips.specs.Spelling.{movedName, canonical, withMark}
 use Rattle.encode.specs.Writing.{writing}
 use Rattle.trips.specs.Promises.{ReadsAs}
 use Rattle.trips.proofs.Canonical.{spelt, as-spelt}
-use Rattle.encode.proofs.Pairs.{hw1Of, hw2Of}
+use Rattle.writings.proofs.Pairs.{hw1Of, hw2Of}
 use Rattle.trips.proofs.Registers.{threefold, then, register-back, register-forth, no-number, no-zero}
-use Rattle.decode.proofs.Parts.{operands}
+use Rattle.readings.proofs.Parts.{operands}
 use Rattle.trips.proofs.Routing.{DiffBits, to-diff, number-back, dOf, nOf, mOf, d-fields, n-fields, m-fields, upper-two, lower-four, six}
 use Rattle.laws.proofs.Tests.{both-no, chosen, passed}
 use Rattle.tables.specs.Lengths.{shapeLengths}
@@ -95,7 +95,7 @@ fields : (hw1 hw2 address row size d n m : ℕ) → DiffBits hw1 hw2
 unfolding reading inFamily diffReading
 fields hw1 hw2 address row size d n m f er es ed en em = rw (to-diff hw1 hw2 f, er, es, ed, en, em)
 
--- WRITTEN, THEN READ
+-- written, then read
 
 module _ (k d n m : ℕ) (hk : k < 128) (hd : d < 32) (hn : n < 32) (hm : m < 32) (sized : eqb (k % 4) 3 ≡ false) where
   abbrev h1 : ℕ
@@ -195,7 +195,7 @@ diff-back m k count a b c number hw1 hw2 address home e =
           );
     }
 
--- READ, THEN WRITTEN
+-- read, then written
 
 writes : (m k : ℕ) (mark : Mark) (address : ℕ) (x y z : ℕ) (a b c : Operand) → x < 32 → y < 32 → z < 32
     → vecOf (shapeLengths (shapeAt (k / 4)) .d) x ≡ accepted a → vecOf (shapeLengths (shapeAt (k / 4)) .n) y ≡ accepted b → vecOf (shapeLengths (shapeAt (k / 4)) .m) z ≡ accepted c

@@ -11,7 +11,7 @@ use lib.IntN.{ℤ, pos}
 use lib.Text.{eqt}
 use borrow.Author.Tests.{eq-eqb, eqb-true}
 use Rattle.laws.specs.Answer.{Answer, accepted, refused}
-use Rattle.laws.specs.Choice.{choose, both}
+use Rattle.laws.specs.Choice.{both}
 use Rattle.laws.specs.Search.{Found, at, none}
 use Rattle.laws.specs.Signed.{twosComplement}
 use Rattle.laws.proofs.Digits.{digit}
@@ -27,7 +27,7 @@ use Rattle.insn.specs.Record.{placeAt}
 use Rattle.tables.specs.Cells.{cellAt}
 use Rattle.names.specs.Names.{nameOf, numberOf}
 use Rattle.homes.specs.Home.{homeOf}
-use Rattle.tables.specs.Modimm.{modimm}
+use Rattle.immediate_tables.specs.Modimm.{modimm}
 use Rattle.homes.specs.declared.Home.the-variants.{Modimm}
 use Rattle.tables.proofs.Cells.{cell16}
 use Rattle.homes.proofs.Cells.{firstRow, modimm-stands, modimm-home}
@@ -37,30 +37,30 @@ use Rattle.fields.specs.Halfwords.{bit, field, first, second}
 use Rattle.fields.specs.Registers.{dnumOf, vecOf}
 use Rattle.fields.specs.Promises.{FirstFields, SecondFields}
 use Rattle.fields.proofs.Promises.{firstUnpacked, secondUnpacked, firstPacked, secondPacked}
-use Rattle.immediates.specs.Floats.{floatOf}
+use Rattle.floats.specs.Floats.{floatOf}
 use Rattle.immediates.specs.Modified.{Constant, byte, eachBit, float, undefined, constantAt, element, operandIn, modimmOperand, needsNonzero}
-use Rattle.immediates.specs.Shifts.{isEscape}
-use Rattle.immediates.proofs.Found.{fitting}
-use Rattle.immediates.proofs.Promises.{floatBack}
-use Rattle.immediates.proofs.Same as Same
-use Rattle.decode.specs.Operands.{isSet, insn}
-use Rattle.decode.specs.Operands as Read
-use Rattle.decode.specs.Modimm.{modimmOf, imm8Of, modimmReading}
+use Rattle.amounts.specs.Shifts.{isEscape}
+use Rattle.floats.proofs.Found.{fitting}
+use Rattle.floats.proofs.Promises.{floatBack}
+use Rattle.floats.proofs.Same as Same
+use Rattle.readings.specs.Operands.{isSet, insn}
+use Rattle.readings.specs.Operands as Read
+use Rattle.read_immediates.specs.Modimm.{modimmOf, imm8Of, modimmReading}
 use Rattle.decode.specs.Reading.{reading, inFamily}
-use Rattle.encode.specs.Forms.{Pair, pair, asBit, isQuad}
-use Rattle.values.specs.Numbers.{orNine}
-use Rattle.encode.specs.Modimm.{modimmPair, modimmForm, modimmWriting}
-use Rattle.values.specs.Immediates.{sameValue, immediateReads, immediateOf, immediateIn}
+use Rattle.writings.specs.Forms.{Pair, pair, asBit, isQuad}
+use Rattle.writings.specs.Numbers.{orNine}
+use Rattle.write_immediates.specs.Modimm.{modimmPair, modimmForm, modimmWriting}
+use Rattle.immediate_values.specs.Immediates.{sameValue, immediateReads, immediateOf, immediateIn}
 use Rattle.trips.specs.Spelling.{Held, movedName, canonical, withMark}
 use Rattle.encode.specs.Writing.{writing}
 use Rattle.trips.specs.Promises.{ReadsAs}
 use Rattle.trips.proofs.Canonical.{spelt, as-spelt}
-use Rattle.encode.proofs.Pairs.{hw1Of, hw2Of}
-use Rattle.values.proofs.Immediates.{op, cmode, imm8, row-of, says, isFloat, float-rows, only-number, spelled-back, equal, float-found}
+use Rattle.writings.proofs.Pairs.{hw1Of, hw2Of}
+use Rattle.immediate_values.proofs.Immediates.{op, cmode, imm8, row-of, says, isFloat, float-rows, only-number, spelled-back, equal, float-found}
 use Rattle.trips.proofs.Registers.{register-back, register-forth, quad-of}
-use Rattle.decode.proofs.Parts.{two-operands}
+use Rattle.readings.proofs.Parts.{two-operands}
 use Rattle.trips.proofs.Routing.{ImmediateBits, to-modimm, set-bit, bit-set, bit-small, number-back, dOf, d-fields}
-use Rattle.values.proofs.Tests.{same-number, number-same}
+use Rattle.writings.proofs.Tests.{same-number, number-same}
 use Rattle.laws.proofs.Tests.{same-text, chosen, passed}
 use Rattle.laws.proofs.Tests.{both-true}
 
@@ -79,7 +79,7 @@ fields : (hw1 hw2 address o c b d : ℕ) (quad : Bool) → ImmediateBits hw1 hw2
 unfolding reading inFamily modimmReading
 fields hw1 hw2 address o c b d quad f eo ec eb eq ed = rw (to-modimm hw1 hw2 f, eb, eo, ec, eq, ed)
 
--- WRITTEN, THEN READ
+-- written, then read
 
 lower-three : (h y : ℕ) → y < 8 → field 5 0 h ≡ y → field 2 0 h ≡ y
 lower-three h y l e = omega arith
@@ -205,7 +205,7 @@ modimm-back m k count a b c number hw1 hw2 address home absent held e =
       read = rw (r .0, v .spelled, filled, v .zero, v .is, g .0, numbersBack m (st .known), plain, absent two, two);
     }
 
--- READ, THEN WRITTEN
+-- read, then written
 
 abbrev isUndefined : Constant → Bool
 isUndefined (byte bits place ones) = false

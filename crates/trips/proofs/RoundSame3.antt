@@ -20,7 +20,7 @@ use Rattle.insn.specs.declared.Operand.the-variants.{Absent}
 use Rattle.insn.specs.Record.{placeAt}
 use Rattle.tables.specs.Cells.{cellAt}
 use Rattle.names.specs.Names.{nameOf, numberOf, pairwise}
-use Rattle.tables.specs.Same3.{same3}
+use Rattle.register_tables.specs.Same3.{same3}
 use Rattle.homes.specs.Home.{homeOf}
 use Rattle.homes.specs.declared.Home.the-variants.{Same3, Vmov}
 use Rattle.tables.proofs.Cells.{cell4}
@@ -31,19 +31,19 @@ use Rattle.fields.specs.Halfwords.{bit, field, first, second}
 use Rattle.fields.specs.Registers.{dnumOf, vecOf}
 use Rattle.fields.specs.Promises.{FirstFields, SecondFields}
 use Rattle.fields.proofs.Promises.{firstUnpacked, secondUnpacked, firstPacked, secondPacked}
-use Rattle.decode.specs.Operands.{isSet, insn}
-use Rattle.decode.specs.Operands as Read
-use Rattle.decode.specs.Same3.{shiftsByRegister, same3Of, same3Reading}
+use Rattle.readings.specs.Operands.{isSet, insn}
+use Rattle.readings.specs.Operands as Read
+use Rattle.read_registers.specs.Same3.{shiftsByRegister, same3Of, same3Reading}
 use Rattle.decode.specs.Reading.{reading, inFamily}
-use Rattle.encode.specs.Forms.{Pair, pair, cellOf, asBit, isQuad, registerIn, Three, allThree, numbers}
-use Rattle.encode.specs.Same3.{same3Pair, same3Form, same3Writing, vorrCell, vmovWriting}
+use Rattle.writings.specs.Forms.{Pair, pair, cellOf, asBit, isQuad, registerIn, Three, allThree, numbers}
+use Rattle.write_registers.specs.Same3.{same3Pair, same3Form, same3Writing, vorrCell, vmovWriting}
 use Rattle.trips.specs.Spelling.{sameRegister, isZero, movedName, canonical, withMark}
 use Rattle.encode.specs.Writing.{writing}
 use Rattle.trips.specs.Promises.{ReadsAs}
 use Rattle.trips.proofs.Registers.{threefold, then, register-back, register-forth, quad-of, no-number, no-zero, same-registers}
-use Rattle.decode.proofs.Parts.{operands, two-operands}
+use Rattle.readings.proofs.Parts.{operands, two-operands}
 use Rattle.trips.proofs.Canonical.{spelt, as-spelt, as-vmov}
-use Rattle.encode.proofs.Pairs.{hw1Of, hw2Of}
+use Rattle.writings.proofs.Pairs.{hw1Of, hw2Of}
 use Rattle.laws.proofs.Tests.{both-true, both-no, chosen, passed}
 use Rattle.trips.proofs.Routing.{SameBits, to-same, set-bit, bit-set, bit-small, number-back, dOf, nOf, mOf, d-fields, n-fields, m-fields, CellFields, cell-fields, upper-two, lower-four, six}
 
@@ -160,7 +160,7 @@ no-vorr k h e =
     rw e at
     (agree (λ (k : ℕ). choose (shiftsByRegister (field 6 3 k)) (eqt (cell4 same3 k) "vorr") false) (λ (k : ℕ). false) 256 refl k h)
 
--- WRITTEN, THEN READ
+-- written, then read
 
 pub same3-back : (m k count : ℕ) (a b c : Operand) (number : Bool) (hw1 hw2 address : ℕ) → homeOf (nameOf m) number ≡ Same3 k
     → same3Writing k (nameOf m) count a b c ≡ accepted (pair hw1 hw2) → ReadsAs hw1 hw2 address (canonical (spelt m count a b c))
@@ -257,7 +257,7 @@ vmov-back m count a b c number hw1 hw2 address home absent e =
           );
     }
 
--- READ, THEN WRITTEN
+-- read, then written
 
 writes : (m k : ℕ) (mark : Mark) (address : ℕ) (quad : Bool) (x y z : ℕ) (a b c : Operand) → x < 32 → y < 32 → z < 32
     → vecOf quad x ≡ accepted a → vecOf quad y ≡ accepted b → vecOf quad z ≡ accepted c

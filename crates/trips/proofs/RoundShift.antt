@@ -20,7 +20,7 @@ use Rattle.tables.specs.Cells.{cellAt}
 use Rattle.names.specs.Names.{nameOf, numberOf}
 use Rattle.homes.specs.Home.{homeOf}
 use Rattle.laws.specs.Search.{Found, at, none}
-use Rattle.tables.specs.Shift.{shiftRows, shiftCells, shiftClasses, vmovl}
+use Rattle.immediate_tables.specs.Shift.{shiftRows, shiftCells, shiftClasses, vmovl}
 use Rattle.tables.specs.declared.ShiftClass.{ShiftClass}
 use Rattle.tables.specs.declared.ShiftClass.the-variants.{Right, Long}
 use Rattle.homes.specs.declared.Home.the-variants.{Shift, Vmovl}
@@ -34,20 +34,20 @@ use Rattle.fields.specs.Halfwords.{bit, field, first, second}
 use Rattle.fields.specs.Registers.{vecOf}
 use Rattle.fields.specs.Promises.{FirstFields, SecondFields}
 use Rattle.fields.proofs.Promises.{firstUnpacked, secondUnpacked}
-use Rattle.immediates.specs.Shifts.{isEscape, amountOf}
-use Rattle.decode.specs.Operands.{isSet, insn}
-use Rattle.decode.specs.Operands as Read
-use Rattle.decode.specs.Shift.{shifted, shiftOf}
+use Rattle.amounts.specs.Shifts.{isEscape, amountOf}
+use Rattle.readings.specs.Operands.{isSet, insn}
+use Rattle.readings.specs.Operands as Read
+use Rattle.read_immediates.specs.Shift.{shifted, shiftOf}
 use Rattle.decode.specs.Reading.{reading}
-use Rattle.encode.specs.Forms.{pair, isQuad, registerIn, Three, allThree, numbers}
-use Rattle.values.specs.Numbers.{orNine}
-use Rattle.encode.specs.Shift.{shiftPair, bitB, shiftForm, shiftClassed, shiftWriting, vshllCell, vmovlWriting}
-use Rattle.values.specs.Amounts.{amountReads, amountIn}
+use Rattle.writings.specs.Forms.{pair, isQuad, registerIn, Three, allThree, numbers}
+use Rattle.writings.specs.Numbers.{orNine}
+use Rattle.write_immediates.specs.Shift.{shiftPair, bitB, shiftForm, shiftClassed, shiftWriting, vshllCell, vmovlWriting}
+use Rattle.amount_values.specs.Amounts.{amountReads, amountIn}
 use Rattle.trips.specs.Spelling.{sameRegister, isZero, movedName, canonical}
 use Rattle.trips.specs.Promises.{ReadsAs}
-use Rattle.values.proofs.Amounts.{Reads, says}
+use Rattle.amount_values.proofs.Amounts.{Reads, says}
 use Rattle.trips.proofs.Canonical.{spelt, as-spelt, as-vmovl}
-use Rattle.encode.proofs.Pairs.{hw1Of, hw2Of}
+use Rattle.writings.proofs.Pairs.{hw1Of, hw2Of}
 use Rattle.trips.proofs.Registers.{threefold, then, register-back}
 use Rattle.trips.proofs.Routing.{number-back}
 use Rattle.laws.proofs.Tests.{both-no, chosen}

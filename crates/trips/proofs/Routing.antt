@@ -9,12 +9,12 @@ use borrow.Author.Tests.{eq-eqb, ne-eqb, eqb-true, eqb-false}
 use Rattle.laws.specs.Choice.{choose}
 use Rattle.fields.specs.Halfwords.{bit, field}
 use Rattle.fields.specs.Registers.{dnumOf}
-use Rattle.immediates.specs.Shifts.{isEscape}
-use Rattle.decode.specs.Operands.{isSet}
+use Rattle.amounts.specs.Shifts.{isEscape}
+use Rattle.readings.specs.Operands.{isSet}
 use Rattle.decode.specs.Reading.{isDataProcessing, familyOf}
 use Rattle.decode.specs.declared.Family.{Family}
 use Rattle.decode.specs.declared.Family.the-variants.{ThreeSame, ThreeDifferent, Shift, ModifiedImmediate, NoFamily}
-use Rattle.encode.specs.Forms.{cellOf, asBit}
+use Rattle.writings.specs.Forms.{cellOf, asBit}
 use Rattle.laws.proofs.Tests.{both-true}
 
 pub record SameBits (hw1 : ℕ) : Type 0 where

@@ -22,7 +22,7 @@ use Rattle.tables.specs.Cells.{cellAt}
 use Rattle.names.specs.Names.{nameOf, numberOf}
 use Rattle.homes.specs.Home.{homeOf}
 use Rattle.laws.specs.Search.{at, none}
-use Rattle.tables.specs.Shift.{shiftRows, shiftCells, shiftClasses, vmovl}
+use Rattle.immediate_tables.specs.Shift.{shiftRows, shiftCells, shiftClasses, vmovl}
 use Rattle.tables.specs.declared.ShiftClass.{ShiftClass}
 use Rattle.tables.specs.declared.ShiftClass.the-variants.{Right, Left, Narrow, Long, Convert}
 use Rattle.homes.specs.declared.Home.the-variants.{Shift, Vmovl}
@@ -33,20 +33,19 @@ use Rattle.laws.proofs.Never.{never}
 use Rattle.fields.specs.Halfwords.{bit, field, first, second}
 use Rattle.fields.specs.Registers.{vecOf}
 use Rattle.fields.proofs.Promises.{firstPacked, secondPacked}
-use Rattle.immediates.specs.Shifts.{isEscape, amountOf}
-use Rattle.immediates.proofs.Shifts.{code-lt}
-use Rattle.decode.specs.Operands.{isSet, insn}
-use Rattle.decode.specs.Shift.{forbidden, columnOf, amount, shifted, shiftOf, shiftReading}
-use Rattle.decode.specs.Reading.{reading}
-use Rattle.encode.specs.Forms.{Pair, pair, cellOf, isQuad, allThree}
-use Rattle.values.specs.Numbers.{orNine}
-use Rattle.encode.specs.Shift.{shiftPair, bitB, shiftClassed, shiftWriting, vshllCell, vmovlWriting}
-use Rattle.values.specs.Amounts.{amountReads, amountIn}
+use Rattle.amounts.specs.Shifts.{isEscape, amountOf}
+use Rattle.amounts.proofs.Shifts.{code-lt}
+use Rattle.readings.specs.Operands.{isSet, insn}
+use Rattle.read_immediates.specs.Shift.{forbidden, columnOf, amount, shifted, shiftOf, shiftReading}
+use Rattle.writings.specs.Forms.{Pair, pair, cellOf, isQuad, allThree}
+use Rattle.writings.specs.Numbers.{orNine}
+use Rattle.write_immediates.specs.Shift.{shiftPair, bitB, shiftClassed, shiftWriting, vshllCell, vmovlWriting}
+use Rattle.amount_values.specs.Amounts.{amountReads, amountIn}
 use Rattle.trips.specs.Spelling.{withMark}
 use Rattle.encode.specs.Writing.{writing}
-use Rattle.values.proofs.Amounts.{only-place}
+use Rattle.amount_values.proofs.Amounts.{only-place}
 use Rattle.trips.proofs.Registers.{register-forth, quad-of}
-use Rattle.decode.proofs.Parts.{operands, two-operands}
+use Rattle.readings.proofs.Parts.{operands, two-operands}
 use Rattle.trips.proofs.Routing.{ImmediateBits, set-bit, dOf, mOf, d-fields, m-fields, CellFields, cell-fields}
 use Rattle.laws.proofs.Tests.{both-true, passed}
 use Rattle.trips.proofs.ShiftRows.{isLong, moved-filled, by-class, by-zero}

@@ -1,7 +1,7 @@
 -- The rows of two registers and a shift amount: their names, classes, lengths and operands.
 -- Assumes nothing.
 use mathlib.Core.Path.{_≡_, refl}
-use mathlib.Core.Bool.{Bool, true, false, not}
+use mathlib.Core.Bool.{Bool, true, false}
 use Prim.Native.Nat.{ℕ, _+_, _*_, _%_, _<_}
 use Prim.Native.String.{String}
 use native.Mathlib.Omega.{arith}
@@ -12,23 +12,21 @@ use Rattle.laws.specs.Choice.{choose, both}
 use Rattle.laws.proofs.Range.{values, agree}
 use Rattle.insn.specs.declared.Mark.the-variants.{T1}
 use Rattle.tables.specs.Cells.{cellAt}
-use Rattle.laws.specs.Search.{at, none}
+use Rattle.laws.specs.Search.{at}
 use Rattle.laws.proofs.Never.{never}
-use Rattle.tables.specs.Shift.{shiftRows, shiftCells, shiftClasses, vmovl}
+use Rattle.immediate_tables.specs.Shift.{shiftRows, shiftCells, shiftClasses, vmovl}
 use Rattle.tables.specs.declared.ShiftClass.{ShiftClass}
 use Rattle.tables.specs.declared.ShiftClass.the-variants.{Right, Left, Narrow, Long, Convert}
 use Rattle.tables.proofs.Cells.{cell4}
 use Rattle.homes.proofs.Cells.{classAt}
 use Rattle.fields.specs.Halfwords.{bit, field}
 use Rattle.fields.specs.Registers.{dnumOf, vecOf}
-use Rattle.decode.specs.Operands.{isSet}
-use Rattle.decode.specs.Operands as Read
-use Rattle.decode.specs.Shift.{amount, shifted, shiftOf, shiftReading, isLongByZero}
+use Rattle.readings.specs.Operands.{isSet}
+use Rattle.readings.specs.Operands as Read
+use Rattle.read_immediates.specs.Shift.{amount, shifted, shiftOf, shiftReading, isLongByZero}
 use Rattle.decode.specs.Reading.{reading, inFamily}
-use Rattle.encode.specs.Forms.{numbers}
-use Rattle.encode.specs.Shift.{bitB}
+use Rattle.write_immediates.specs.Shift.{bitB}
 use Rattle.trips.specs.Spelling.{movedName}
-use Rattle.decode.proofs.Parts.{operands}
 use Rattle.trips.proofs.Routing.{ImmediateBits, to-shift, bit-set, bit-small}
 use Rattle.tables.specs.Lengths.{classLengths}
 

@@ -6,7 +6,7 @@ use Rattle.laws.specs.Answer.{Answer, accepted, refused}
 use Rattle.insn.specs.declared.Insn.{Insn}
 use Rattle.insn.specs.declared.Mark.{Mark}
 use Rattle.decode.specs.Reading.{reading}
-use Rattle.encode.specs.Forms.{Pair, pair}
+use Rattle.writings.specs.Forms.{Pair, pair}
 use Rattle.trips.specs.Spelling.{Spelling, spelled}
 
 -- a pair that was read, for the pair itself; a refusal stays what it is

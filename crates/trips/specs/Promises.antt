@@ -7,7 +7,7 @@ use Rattle.insn.specs.declared.Insn.{Insn}
 use Rattle.insn.specs.declared.Mark.{Mark}
 use Rattle.insn.specs.Record.{placeAt}
 use Rattle.decode.specs.Reading.{reading}
-use Rattle.encode.specs.Forms.{pair}
+use Rattle.writings.specs.Forms.{pair}
 use Rattle.trips.specs.Spelling.{Spelling, Held, spelling, spelled, canonical, withMark}
 use Rattle.encode.specs.Writing.{writing}
 

@@ -17,8 +17,8 @@ use Rattle.insn.specs.declared.Operand.the-variants.{D, Q, S, Imm, Float as Rea
 use Rattle.insn.specs.Record.{placeAt, valueOr}
 use Rattle.names.specs.Names.{nameOf, numberOf}
 use Rattle.fields.specs.Registers.{Bits, bits, vecBits}
-use Rattle.decode.specs.Operands.{insn}
-use Rattle.values.specs.Numbers.{sameNumber}
+use Rattle.readings.specs.Operands.{insn}
+use Rattle.writings.specs.Numbers.{sameNumber}
 
 pub record Spelling : Type 0 where
   pub mnemonic : ℕ

@@ -1,14 +1,14 @@
 // Reading and writing one after the other: what is read is written back, and what is written is read back.
 ghost use mathlib.Core.Path.{_≡_};
-ghost use Rattle.decode.specs.Answers.{readingAnswer};
+ghost use Rattle.readings.specs.Answers.{readingAnswer};
 ghost use Rattle.decode.specs.Reading.{reading};
-ghost use Rattle.encode.specs.Answers.{writingAnswer};
+ghost use Rattle.writings.specs.Answers.{writingAnswer};
 ghost use Rattle.encode.specs.Writing.{writing};
 ghost use Rattle.trips.specs.Spelling.{spelling, canonical};
 ghost use Rattle.trips.specs.Calls.{samePair, readBack, SpelledBack};
-use decode::Reading;
-use encode::Writing;
 use insn::Insn;
+use readings::Reading;
+use writings::Writing;
 
 // Reads a pair and writes it again: a pair that is read comes back, whatever the address.
 pub fn read_and_write(hw1: u16, hw2: u16, address: u32) -> Writing

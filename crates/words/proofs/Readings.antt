@@ -1,14 +1,14 @@
 -- What is read has each field in its bits.
 -- Assumes nothing.
-use mathlib.Core.Path.{_≡_, refl, sym, _∙_, ap, subst}
+use mathlib.Core.Path.{_≡_, refl, subst}
 use mathlib.Core.Bool.{Bool, true, false}
 use mathlib.Core.List.{List, [], _∷_}
 use Prim.Native.Nat.{ℕ, suc, _+_, _*_, _/_, _%_, _^_, _<_, _≤_}
 use Prim.Native.String.{String}
 use native.Mathlib.Omega.{arith}
-use lib.Arith.{digits-div, digits-mod, digits-lt}
+use lib.Arith.{digits-div, digits-mod}
 use lib.Dec.{eqb, ltb}
-use lib.Ieee.{fits, binary64, ofBits}
+use lib.Ieee.{fits, binary64}
 use lib.IntN.{pos}
 use lib.ListN.{length}
 use lib.Signed.{mag}
@@ -25,24 +25,24 @@ use Rattle.insn.specs.declared.Mark.the-variants.{T1}
 use Rattle.insn.specs.declared.Operand.{Operand}
 use Rattle.insn.specs.declared.Operand.the-variants.{D, Q, S, Imm, Float, Other, Absent}
 use Rattle.tables.specs.Cells.{cellAt}
-use Rattle.tables.specs.Modimm.{modimm}
+use Rattle.immediate_tables.specs.Modimm.{modimm}
 use Rattle.names.specs.Names.{names, numberOf, pairwise, place}
-use Rattle.tables.specs.Shift.{shiftCells, vmovl}
+use Rattle.immediate_tables.specs.Shift.{shiftCells, vmovl}
 use Rattle.tables.specs.declared.DiffShape.{DiffShape}
 use Rattle.tables.specs.declared.DiffShape.the-variants as shape
 use Rattle.tables.specs.declared.ShiftClass.{ShiftClass}
 use Rattle.tables.specs.declared.ShiftClass.the-variants.{Right, Left, Narrow, Long, Convert}
 use Rattle.names.proofs.Promises.{namesCounted}
 use Rattle.fields.specs.Registers.{vecOf}
-use Rattle.immediates.specs.Floats.{floatOf}
+use Rattle.floats.specs.Floats.{floatOf}
 use Rattle.immediates.specs.Modified.{constantAt, element, operandIn, modimmOperand, needsNonzero}
-use Rattle.immediates.specs.Shifts.{rightEnd, amountOf, sizeCode}
-use Rattle.decode.specs.Diff.{diffOf, diffReading}
-use Rattle.decode.specs.Modimm.{modimmOf, modimmReading, imm8Of}
-use Rattle.decode.specs.Operands.{insn, two, three}
+use Rattle.amounts.specs.Shifts.{rightEnd, amountOf, sizeCode}
+use Rattle.read_registers.specs.Diff.{diffOf, diffReading}
+use Rattle.read_immediates.specs.Modimm.{modimmOf, modimmReading}
+use Rattle.readings.specs.Operands.{insn, two, three}
 use Rattle.decode.specs.Reading.{reading, familyOf, inFamily}
-use Rattle.decode.specs.Same3.{shiftsByRegister, same3Of, same3Reading}
-use Rattle.decode.specs.Shift.{forbidden, columnOf, shiftOf, shifted, shiftReading, isLongByZero}
+use Rattle.read_registers.specs.Same3.{shiftsByRegister, same3Of, same3Reading}
+use Rattle.read_immediates.specs.Shift.{forbidden, columnOf, shiftOf, shifted, shiftReading, isLongByZero}
 use Rattle.decode.specs.declared.Family.{Family}
 use Rattle.decode.specs.declared.Family.the-variants as family
 use Rattle.words.specs.Promises.{OperandFits, RecordFits}

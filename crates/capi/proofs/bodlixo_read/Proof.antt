@@ -4,7 +4,7 @@ use mathlib.Core.Path.{sym, ap, _∙_}
 use borrow.Author.Needs.{needs}
 use Rattle.laws.specs.Answer.{Answer}
 use Rattle.insn.specs.declared.Insn.{Insn}
-use Rattle.decode.specs.Answers.{readingAnswer}
+use Rattle.readings.specs.Answers.{readingAnswer}
 use Rattle.capi.specs.Results.{returnCode, recordAfter}
 use Rattle.capi.proofs.bodlixo_read.Statement.{statement}
 use Rattle.capi.proofs.bodlixo_read.Tie as tie

@@ -2,8 +2,8 @@
 -- Assumes nothing.
 use mathlib.Core.Path.{sym, ap, _∙_}
 use borrow.Author.Needs.{needs}
-use Rattle.machine.specs.Answers.{endingOf}
-use Rattle.machine.specs.Run.{Run}
+use Rattle.runs.specs.Answers.{endingOf}
+use Rattle.runs.specs.Run.{Run}
 use Rattle.machine.specs.declared.Outcome.{Outcome}
 use Rattle.capi.specs.Results.{endCode}
 use Rattle.capi.proofs.bodlixo_run.Statement.{statement}

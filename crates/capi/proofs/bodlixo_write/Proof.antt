@@ -2,7 +2,7 @@
 -- Assumes nothing.
 use mathlib.Core.Path.{sym, ap, _∙_}
 use borrow.Author.Needs.{needs}
-use Rattle.encode.specs.Answers.{writingAnswer}
+use Rattle.writings.specs.Answers.{writingAnswer}
 use Rattle.encode.specs.Writing.{writing}
 use Rattle.capi.proofs.bodlixo_write.Statement.{statement}
 use Rattle.capi.proofs.bodlixo_write.Tie as tie

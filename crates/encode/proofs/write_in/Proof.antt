@@ -2,8 +2,8 @@
 -- Assumes nothing.
 use mathlib.Core.Path.{sym, _∙_}
 use borrow.Author.Needs.{needs}
-use Rattle.encode.specs.Forms.{isNumber}
-use Rattle.values.proofs.Immediates.{plain-home}
+use Rattle.writings.specs.Forms.{isNumber}
+use Rattle.immediate_values.proofs.Immediates.{plain-home}
 use Rattle.encode.proofs.write_in.Statement.{statement}
 use Rattle.encode.proofs.write_in.Tie as tie
 

@@ -6,10 +6,11 @@ use Prim.Native.Nat.{ℕ, _+_, _*_, _%_, _^_}
 use native.Mathlib.Omega.{arith}
 use lib.IntN.{pos, _-ℤ_}
 use borrow.Author.Needs.{needs}
-use Rattle.lanes.specs.Lane.{readAs, onesIf, laneOf}
+use Rattle.arithmetic.specs.Whole.{readAs, onesIf}
+use Rattle.lanes.specs.Lane.{laneOf}
 use Rattle.laws.specs.Signed.{modulo}
-use Rattle.lanes.proofs.Numbers.{cut64, add-cut64}
-use Rattle.lanes.proofs.Signs.{minus-cut64, le-not-lt}
+use Rattle.arithmetic.proofs.Numbers.{cut64, add-cut64}
+use Rattle.arithmetic.proofs.Signs.{minus-cut64, le-not-lt}
 use Rattle.lanes.proofs.lane.Statement.{statement}
 use Rattle.lanes.proofs.lane.Tie as tie
 

@@ -5,7 +5,7 @@ use native.Mathlib.Nat.{mod-lt}
 use native.Mathlib.Omega.{arith}
 use lib.Pow.{pow-pos}
 use borrow.Author.Needs.{needs}
-use Rattle.lanes.proofs.Numbers.{placed, placed-fits}
+use Rattle.arithmetic.proofs.Numbers.{placed, placed-fits}
 use Rattle.lanes.proofs.Promises.{laneBelow}
 use Rattle.lanes.proofs.place.Statement.{statement}
 use Rattle.lanes.proofs.place.Tie as tie

@@ -5,7 +5,7 @@ use Prim.Native.Nat.{ℕ, _≤_, _<_, _-_, _*_}
 use native.Mathlib.Omega.{arith}
 use lib.ListN.{length, getD}
 use borrow.Author.Needs.{needs}
-use Rattle.steps.specs.Steps.{wordAt}
+use Rattle.little_endian.specs.Word.{wordAt}
 use Rattle.laws.proofs.Filled.{one-more}
 use Rattle.loading.proofs.file_of.Statement.{statement}
 use Rattle.loading.proofs.file_of.Tie as tie
@@ -21,10 +21,10 @@ loop-holds c = ((search needs, omega arith), λ k h. absurd (let z : ⊥ = omega
 
 loop-again : tie.Need-loop-again Inv-loop μ-loop
 loop-again c =
-    let a = c .before .before .before .args in
-    let l = c .before .before .loop in (
+    let a = c .before .before .before .before .args in
+    let l = c .before .before .before .loop in (
       (search needs, omega arith),
-      one-more (λ (j : ℕ). wordAt (a .start .now) (8 * j)) (l .file) (l .k) (c .word .result) (omega arith) (c .word .ensures) (l .inv .1),
+      one-more (λ (j : ℕ). wordAt (a .start .now) (8 * j)) (l .file) (l .k) (c .word-at .result) (omega arith) (c .word-at .ensures) (l .inv .1),
     )
 
 returns : tie.Need-returns Inv-loop μ-loop
@@ -33,4 +33,4 @@ returns c = let l = c .before .loop in λ k h. l .inv .1 k (omega arith)
 pub file-of-spec : {M : Type 1} → statement M
 file-of-spec =
     tie.close
-    (tie.spec Inv-loop μ-loop loop-holds (λ c κs. search needs) (λ c. search needs) (λ c. search needs) (λ c. search needs) (λ c. search needs) loop-again returns)
+    (tie.spec Inv-loop μ-loop loop-holds (λ c. search needs) (λ c κs. search needs) (λ c. search needs) (λ c. search needs) (λ c. search needs) (λ c. search needs) loop-again returns)

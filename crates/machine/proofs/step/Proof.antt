@@ -4,7 +4,7 @@ use mathlib.Core.Path.{_≡_, refl, sym, ap, _∙_}
 use borrow.Author.Needs.{needs}
 use Rattle.laws.specs.Answer.{accepted, refused}
 use Rattle.insn.specs.Refusals.{number}
-use Rattle.decode.specs.Answers.{readingAnswer}
+use Rattle.readings.specs.Answers.{readingAnswer}
 use Rattle.decode.specs.Reading.{reading}
 use Rattle.machine.specs.Step.{stepRead}
 use Rattle.machine.proofs.step.Statement.{statement}

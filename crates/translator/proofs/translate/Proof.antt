@@ -38,7 +38,7 @@ returns-4 c =
     let s = c .before .before .before .before .before .before .before .before .before .args .sheet .now in
     let out = c .before .before .before .before .before .before .before .before .before .args .out .now in
     let k = c .before .before .before .before .measure .ensures .0 in
-    let p = c .before .before .before .before .measure .ensures .1 (c .before .before .if3 .left) in
+    let p = c .before .before .before .before .measure .ensures .1 .0 (c .before .before .if3 .left) in
     let e = short s (length out) (omega (arith, c .before .before .before .before .before .before .if1 .left)) (omega (arith, c .before .before .before .before .before .if2 .left)) (k ∙ unbroken (c .before .before .if3 .left)) (omega (arith, p, c .if4 .taken)) in
     (sym e, sym (kept s out 14 e))
 
@@ -50,7 +50,7 @@ returns-5 c =
     let s = c .before .before .before .before .before .before .before .before .before .before .before .before .before .args .sheet .now in
     let out = c .before .before .before .before .before .before .before .before .before .before .before .before .before .args .out .now in
     let k = c .before .before .before .before .before .before .before .before .measure .ensures .0 in
-    let p = c .before .before .before .before .before .before .before .before .measure .ensures .1 (c .before .before .before .before .before .before .if3 .left) in
+    let p = c .before .before .before .before .before .before .before .before .measure .ensures .1 .0 (c .before .before .before .before .before .before .if3 .left) in
     let e = all s (length out) (omega (arith, c .before .before .before .before .before .before .before .before .before .before .if1 .left)) (omega (arith, c .before .before .before .before .before .before .before .before .before .if2 .left)) (k ∙ unbroken (c .before .before .before .before .before .before .if3 .left)) (omega (arith, p, c .before .before .before .before .if4 .left)) in
     (ap accepted p ∙ sym e, filled s out (length (recordsOf s)) (translates s (length out) _ e) (c .before .before .put-steps .ensures))
 

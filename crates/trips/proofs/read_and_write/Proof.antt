@@ -4,7 +4,7 @@ use mathlib.Core.Path.{_≡_, sym, ap, _∙_}
 use borrow.Author.Needs.{needs}
 use Rattle.laws.specs.Answer.{refused}
 use Rattle.insn.specs.Refusals.{number}
-use Rattle.decode.specs.Answers.{readingAnswer}
+use Rattle.readings.specs.Answers.{readingAnswer}
 use Rattle.decode.specs.Reading.{reading}
 use Rattle.trips.proofs.Promises.{readThenWritten}
 use Rattle.trips.proofs.read_and_write.Statement.{statement}

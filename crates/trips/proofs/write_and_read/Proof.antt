@@ -2,7 +2,7 @@
 -- Assumes nothing.
 use mathlib.Core.Path.{refl, sym, ap, _∙_}
 use borrow.Author.Needs.{needs}
-use Rattle.encode.specs.Answers.{writingAnswer}
+use Rattle.writings.specs.Answers.{writingAnswer}
 use Rattle.trips.proofs.Held.{operand-held, place-held}
 use Rattle.trips.proofs.Promises.{writtenThenRead}
 use Rattle.trips.proofs.write_and_read.Statement.{statement}

@@ -3,8 +3,8 @@
 use mathlib.Core.Path.{refl, sym, ap, _∙_}
 use borrow.Author.Needs.{needs}
 use Rattle.names.specs.Names.{codes}
-use Rattle.immediates.specs.Answers.{floatFoundAnswer}
-use Rattle.immediates.specs.Found.{findFloat}
+use Rattle.floats.specs.Answers.{floatFoundAnswer}
+use Rattle.floats.specs.Found.{findFloat}
 use Rattle.display.specs.Operands.{overText}
 use Rattle.laws.proofs.Placed.{then, nothing, respell}
 use Rattle.display.proofs.Short.{over-short}

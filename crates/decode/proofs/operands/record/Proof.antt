@@ -1,8 +1,0 @@
--- `decode::operands::record` meets its contract.
--- Assumes nothing.
-use mathlib.Core.Path.{refl}
-use Rattle.decode.proofs.operands.record.Statement.{statement}
-use Rattle.decode.proofs.operands.record.Tie as tie
-
-pub record-spec : {M : Type 1} → statement M
-record-spec = tie.close (tie.spec (λ c. refl))

@@ -1,0 +1,4 @@
+pub mod Floats
+pub mod Found
+pub mod Answers
+pub mod Promises

@@ -1,0 +1,2 @@
+pub mod Immediates
+pub mod Promises

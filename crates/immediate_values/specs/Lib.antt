@@ -1,0 +1,3 @@
+pub mod Immediates
+pub mod Promises
+pub mod Own

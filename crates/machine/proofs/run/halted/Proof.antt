@@ -1,8 +1,0 @@
--- `machine::run::halted` meets its contract.
--- Assumes nothing.
-use native.Mathlib.Nat.{add-zero}
-use Rattle.machine.proofs.run.halted.Statement.{statement}
-use Rattle.machine.proofs.run.halted.Tie as tie
-
-pub halted-spec : {M : Type 1} → statement M
-halted-spec = tie.close (tie.spec (λ c. rw add-zero))

@@ -1,0 +1,86 @@
+// How many pairs steps are written as.
+ghost use mathlib.Core.Path.{_≡_};
+ghost use mathlib.Core.Bool.{true};
+ghost use Prim.Native.Nat.{ℕ, _*_, _<_, _≤_};
+ghost use lib.ListN.{length};
+ghost use Rattle.measure.specs.Own.{brokenAt};
+ghost use Rattle.recipes.specs.Pairs.{addByte, wordPairs, halfPairs, pairsBy, pairsOf};
+ghost use Rattle.steps.specs.Rules.{keeps, firstFault};
+ghost use Rattle.steps.specs.Steps.{stepsFrom};
+use recipes::Recipe;
+use recipes::recipe_of;
+use steps::Step;
+use steps::bytes::step_at;
+use steps::rules::keeps_rules;
+
+// A byte of a constant's word, the word, and the half.
+fn of_byte(byte: u32) -> u64
+    ensures { λ n. ⌜ ((r : ℕ) → n ≡ length (addByte r byte)) × (n ≤ 1) ⌝ }
+{
+    if byte == 0 { 0 } else { 1 }
+}
+
+fn of_word(v: u32) -> u64
+    ensures { λ n. ⌜ ((r : ℕ) → n ≡ length (wordPairs r v)) × (n ≤ 4) ⌝ }
+{
+    1
+        + of_byte(v / 0x100 % 0x100 * 0x100)
+        + of_byte(v / 0x1_0000 % 0x100 * 0x1_0000)
+        + of_byte(v / 0x100_0000 % 0x100 * 0x100_0000)
+}
+
+fn of_half(v: u64) -> u64
+    ensures { λ n. ⌜ ((r : ℕ) → n ≡ length (halfPairs r v)) × (n ≤ 10) ⌝ }
+{
+    let half = recipe_of(v);
+    match half {
+        Recipe::Twice(word) => of_word(word),
+        Recipe::Joined(low, high) => of_word(low) + of_word(high) + 2,
+    }
+}
+
+// The pairs of a step.
+fn of_step(s: Step) -> u64
+    requires { ⌜ keeps s ≡ true ⌝ }
+    ensures { λ n. ⌜ (n ≡ length (pairsBy (s .kind) s)) × (n ≤ 20) ⌝ }
+{
+    let k = s.kind;
+    if k == 0 {
+        of_half(s.low) + of_half(s.high)
+    } else if k == 8 {
+        2
+    } else if k == 14 {
+        3
+    } else {
+        1
+    }
+}
+
+// What `measure` finds: the index of the first step that breaks a rule, or n, and the pairs of all steps, or 0.
+pub struct Measured {
+    pub broken: usize,
+    pub pairs: u64,
+}
+
+// Goes over n steps, as far as the first that breaks a rule.
+pub fn measure(sheet: &[u8], n: usize) -> Measured
+    requires { ⌜ (24 * n ≤ length (now sheet)) × (n ≤ 256) ⌝ }
+    ensures broken { λ r. ⌜ firstFault 0 (stepsFrom (now (sheet .entry)) 0 n) ≡ brokenAt n (r .broken) ⌝ }
+    ensures pairs { λ r. ⌜ (n ≤ r .broken → r .pairs ≡ length (pairsOf (stepsFrom (now (sheet .entry)) 0 n))) ⌝ }
+    ensures none { λ r. ⌜ (r .broken ≤ n) × (r .broken < n → r .pairs ≡ 0) ⌝ }
+{
+    let mut i = 0;
+    let mut pairs = 0;
+    while i < n {
+        let s = step_at(sheet, 24 * i);
+        if !keeps_rules(s) {
+            return Measured {
+                broken: i,
+                pairs: 0,
+            };
+        }
+        pairs += of_step(s);
+        i += 1;
+    }
+    Measured { broken: i, pairs }
+}

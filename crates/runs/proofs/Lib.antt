@@ -1,0 +1,4 @@
+pub mod AnyRuns
+pub mod Copies
+pub mod Promises
+pub mod Runs

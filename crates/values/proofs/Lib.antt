@@ -1,4 +1,0 @@
-pub mod Amounts
-pub mod Immediates
-pub mod Promises
-pub mod Tests

@@ -1,0 +1,3 @@
+// Writing the families with an immediate: shifts, and modified immediates.
+pub mod modimm;
+pub mod shift;

@@ -1,0 +1,2 @@
+pub mod Same3
+pub mod Diff
