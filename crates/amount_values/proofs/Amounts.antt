@@ -5,26 +5,27 @@ use mathlib.Core.Bool.{Bool, true, false, not}
 use mathlib.Core.Logic.{_≢_}
 use Prim.Native.Nat.{ℕ, _+_, _-_, _*_, _%_, _^_, _<_, _≤_}
 use native.Mathlib.Omega.{arith}
-use lib.Dec.{eqb, ltb, leb}
-use lib.IntN.{ℤ, pos, negsuc}
-use lib.Signed.{mag}
-use borrow.Author.Tests.{eqb-true, eqb-false, leb-true, eq-eqb, ne-eqb, lt-ltb, le-ltb}
+use lib.Dec.{T, eqb, ltb, leb}
+use lib.IntN.{ℤ, pos, negsuc, natAbs}
+use lib.Signed.{ltZ, nonNeg}
+use mir.Syntax.{w8}
+use mir.Val.{Fits}
+use borrow.Author.Tests.{eqb-true, eqb-false, leb-true, ltb-true, ltb-false, eq-eqb, ne-eqb, lt-ltb, le-ltb}
 use Rattle.laws.specs.Answer.{Answer, accepted, refused}
 use Rattle.laws.specs.Choice.{choose, both}
 use Rattle.laws.proofs.Range.{values, agree, agree2}
 use Rattle.insn.specs.declared.Operand.the-variants.{Imm}
 use Rattle.laws.specs.Search.{Found, at, none}
 use Rattle.laws.proofs.Search.{candidate, nothing}
-use Rattle.laws.proofs.Never.{never}
+use Rattle.laws.proofs.Never.{wrong}
 use Rattle.tables.specs.declared.ShiftClass.{ShiftClass}
 use Rattle.tables.specs.declared.ShiftClass.the-variants.{Right, Left, Narrow, Long, Convert}
 use Rattle.fields.specs.Halfwords.{bit, field}
 use Rattle.amounts.specs.Shifts.{isEscape, rightEnd, leftStart, amountOf, sizeCode}
-use Rattle.laws.specs.Signed.{modulo}
-use Rattle.laws.proofs.Signed.{modulo-pos}
 use Rattle.read_immediates.specs.Shift.{forbidden, columnOf}
 use Rattle.writings.specs.Numbers.{orNine}
 use Rattle.amount_values.specs.Amounts.{amountReads, amountIn}
+use Rattle.amount_values.specs.Range.{isOutside}
 use Rattle.writings.proofs.Tests.{same-number}
 use Rattle.laws.proofs.Tests.{both-true, not-holds}
 
@@ -128,13 +129,13 @@ module _ (class : ShiftClass) (column : ℕ) where
       (candidate (λ (t : ℕ). amountReads class column (pos k) (l t) (i t)) 128 (guess class column k) (omega arith) (only-place k)
       ∙ tested class column k hc (omega arith)))
 
-  -- a greater number has no place, and neither has a negative one
-  pub no-amount : (v : ℤ) → ((k : ℕ) → k ≤ 64 → pos k ≡ v → ⊥) → refused 9 ≡ amountIn class column (Imm v)
+  -- a number outside 0 to 64 has no place
+  pub outside-nine : (v : ℤ) → isOutside v ≡ true → amountIn class column (Imm v) ≡ refused 9
   unfolding amountIn
-  no-amount v far = ap orNine (sym (nothing (λ (t : ℕ). amountReads class column v (l t) (i t)) 128 (λ t h. go t h (amountReads class column v (l t) (i t)) refl)))
+  outside-nine v out = ap orNine (nothing (λ (t : ℕ). amountReads class column v (l t) (i t)) 128 (λ t h. go t h (amountReads class column v (l t) (i t)) refl))
     where
       go : (t : ℕ) → t < 128 → (b : Bool) → amountReads class column v (l t) (i t) ≡ b → b ≡ false
-      go t h true e = absurd (far (amountOf class (l t) (i t)) (leb-true _ 64 (small class t h)) (says v t e .its-amount))
+      go t h true e = wrong (sym (le-ltb 64 (amountOf class (l t) (i t)) (leb-true (amountOf class (l t) (i t)) 64 (small class t h))) ∙ ap isOutside (says v t e .its-amount) ∙ out)
       go t h false e = refl
 
 -- the code's tests, as a search's outcome
@@ -203,13 +204,24 @@ module _ (column k : ℕ) (hc : column < 4) (hk : k ≤ 64) where
   pub convert-none : column ≢ 0 → refused 9 ≡ amountIn Convert column (Imm (pos k))
   convert-none n = no-down ∙ rw (ne-eqb column 0 n) at (amount-place Convert column k hc hk)
 
--- a number by its pattern
-pub by-pattern : (class : ShiftClass) (column : ℕ) (v : ℤ) → mag v < 2 ^ 63 → modulo 64 v ≤ 64 → amountIn class column (Imm (pos (modulo 64 v))) ≡ amountIn class column (Imm v)
-unfolding modulo
-by-pattern class column (pos n) f h = ap (λ (k : ℕ). amountIn class column (Imm (pos k))) (modulo-pos 64 n (omega arith))
-by-pattern class column (negsuc n) f h = absurd (let z : ⊥ = omega arith in z)
+-- the code's tests of the range
+pub negative-outside : (v : ℤ) → ltZ v (pos 0) ≡ true → true ≡ isOutside v
+negative-outside (pos n) e = absurd (let h = ltb-true n 0 e in let z : ⊥ = omega arith in z)
+negative-outside (negsuc n) e = refl
 
-pub past-pattern : (class : ShiftClass) (column : ℕ) (v : ℤ) → 64 < modulo 64 v → refused 9 ≡ amountIn class column (Imm v)
-unfolding modulo
-past-pattern class column (pos n) h = no-amount class column (pos n) (λ k l e. let same : k ≡ n = cc in omega arith)
-past-pattern class column (negsuc n) h = no-amount class column (negsuc n) (λ k l e. never (cc))
+pub past-outside : (v : ℤ) → ltZ v (pos 0) ≡ false → ltZ (pos 64) v ≡ isOutside v
+past-outside (pos n) e = refl
+past-outside (negsuc n) e = wrong (sym e)
+
+-- a number that is not outside is its own amount, and 8 bits hold it
+pub inside-is : (v : ℤ) → isOutside v ≡ false → pos (natAbs v) ≡ v
+inside-is (pos n) e = refl
+inside-is (negsuc n) e = wrong (sym e)
+
+pub inside-le : (v : ℤ) → isOutside v ≡ false → natAbs v ≤ 64
+inside-le (pos n) e = ltb-false 64 n e
+inside-le (negsuc n) e = wrong (sym e)
+
+pub inside-asks : (v : ℤ) → isOutside v ≡ false → T (nonNeg v) × Fits w8 (natAbs v)
+inside-asks (pos n) e = let h = ltb-false 64 n e in (tt, omega arith)
+inside-asks (negsuc n) e = wrong (sym e)

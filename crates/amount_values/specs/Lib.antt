@@ -1,2 +1,3 @@
 pub mod Amounts
+pub mod Range
 pub mod Promises

@@ -1,4 +1,4 @@
-// The place L:imm6 of a shift amount.
+// The place L:imm6 of a shift amount, both 8-bit numbers once the number is known to be in range.
 ghost use mathlib.Core.Path.{_≡_};
 ghost use Prim.Native.Nat.{_+_, _-_, _*_, _<_, _≤_};
 ghost use lib.Dec.{eqb, ltb};
@@ -6,15 +6,15 @@ ghost use lib.IntN.{pos};
 ghost use Rattle.laws.specs.Answer.{accepted, refused};
 ghost use Rattle.laws.specs.Choice.{choose};
 ghost use Rattle.amount_values.specs.Amounts.{amountIn};
+ghost use Rattle.amount_values.specs.Range.{isOutside};
 ghost use Rattle.writings.specs.Answers.{fieldAnswer};
 use insn::Operand;
 use insn::Refusal;
-use insn::signed;
 use tables::ShiftClass;
 use writings::Field;
 
 // The largest amount that a pair carries.
-const LARGEST: u64 = 64;
+const LARGEST: i64 = 64;
 
 // L:imm6 of the amount k where the amounts 1 to n count down from 2n.
 fn counted_down(n: u8, k: u8) -> Field
@@ -27,7 +27,7 @@ fn counted_down(n: u8, k: u8) -> Field
     if n < k {
         return Field::Refused(Refusal::NoSuchValue);
     }
-    Field::Is((2 * n - k) as u16)
+    Field::Is(2 * n - k)
 }
 
 // L:imm6 of the amount k where the amounts below n count up from n.
@@ -36,7 +36,7 @@ fn counted_up(n: u8, k: u8) -> Field
     ensures { λ r. ⌜ fieldAnswer r ≡ choose (ltb k n) (accepted (n + k)) (refused 9) ⌝ }
 {
     if k < n {
-        return Field::Is((n + k) as u16);
+        return Field::Is(n + k);
     }
     Field::Refused(Refusal::NoSuchValue)
 }
@@ -71,16 +71,25 @@ fn amount_place(class: ShiftClass, column: u8, k: u8) -> Field
     }
 }
 
-// L:imm6 of a number as an amount.
+// Whether a number is outside 0 to 64, and so no amount of any row.
+fn is_outside(v: i64) -> bool
+    ensures { λ r. ⌜ r ≡ isOutside v ⌝ }
+{
+    if v < 0 {
+        return true;
+    }
+    LARGEST < v
+}
+
+// L:imm6 of a number as an amount: its range is tested first, since 8 bits of 256 would be those of 0.
 fn number_place(class: ShiftClass, column: u8, v: i64) -> Field
     requires { ⌜ column < 4 ⌝ }
     ensures { λ r. ⌜ fieldAnswer r ≡ amountIn class column (Operand.Imm v) ⌝ }
 {
-    let pattern = signed::pattern_of(v);
-    if LARGEST < pattern {
+    if is_outside(v) {
         return Field::Refused(Refusal::NoSuchValue);
     }
-    amount_place(class, column, pattern as u8)
+    amount_place(class, column, v as u8)
 }
 
 // L:imm6 of the operand that is the amount.

@@ -46,21 +46,25 @@ pub fn vec_bits(reg: Operand) -> VectorBits
 }
 
 // The first halfword of a pair, from the low bits of its fields.
-pub fn first_halfword(u: u16, a: u16, d: u16, low: u16) -> u16
+pub fn first_halfword(u: u8, a: u8, d: u8, low: u8) -> u16
     ensures { λ r. ⌜ r ≡ first (u % 2) (a % 2) (d % 2) (low % 64) ⌝ }
 {
-    0xef00 + u % 2 * 0x1000 + a % 2 * 0x80 + d % 2 * 0x40 + low % 64
+    0xef00
+        + (u % 2) as u16 * 0x1000
+        + (a % 2) as u16 * 0x80
+        + (d % 2) as u16 * 0x40
+        + (low % 64) as u16
 }
 
 // The second halfword of a pair, from the low bits of its fields.
-pub fn second_halfword(vd: u16, op: u16, b7: u16, b6: u16, b5: u16, b4: u16, low: u16) -> u16
+pub fn second_halfword(vd: u8, op: u8, b7: u8, b6: u8, b5: u8, b4: u8, low: u8) -> u16
     ensures { λ r. ⌜ r ≡ second (vd % 16) (op % 16) (b7 % 2) (b6 % 2) (b5 % 2) (b4 % 2) (low % 16) ⌝ }
 {
-    vd % 16 * 0x1000
-        + op % 16 * 0x100
-        + b7 % 2 * 0x80
-        + b6 % 2 * 0x40
-        + b5 % 2 * 0x20
-        + b4 % 2 * 0x10
-        + low % 16
+    (vd % 16) as u16 * 0x1000
+        + (op % 16) as u16 * 0x100
+        + (b7 % 2) as u16 * 0x80
+        + (b6 % 2) as u16 * 0x40
+        + (b5 % 2) as u16 * 0x20
+        + (b4 % 2) as u16 * 0x10
+        + (low % 16) as u16
 }

@@ -6,7 +6,7 @@ ghost use Rattle.laws.specs.Signed.{twosComplement};
 ghost use Rattle.homes.specs.Home.{homeOf};
 ghost use Rattle.names.specs.Names.{nameOf};
 ghost use Rattle.fields.specs.Halfwords.{bit, field};
-ghost use Rattle.writings.specs.Answers.{fieldAnswer};
+ghost use Rattle.writings.specs.Answers.{wideFieldAnswer};
 ghost use Rattle.immediate_values.specs.Immediates.{sameValue, immediateReads, immediateOf, immediateIn};
 ghost use Rattle.immediate_values.specs.Own.{twoBits, fourBits, byteBits, halfwordOffset, wordOffset, OnlyPlace};
 use floats::FloatFound;
@@ -14,7 +14,7 @@ use homes::Home;
 use insn::Operand;
 use insn::Refusal;
 use insn::signed;
-use writings::Field;
+use writings::WideField;
 
 // The mnemonic that takes a float, and the first place of its cell.
 const VMOV_F32: u16 = 266;
@@ -127,37 +127,37 @@ fn immediate_reads(m: u16, v: i64, t: u16) -> bool
 }
 
 // op:cmode:imm8 of a mnemonic and a number: the candidate, if it is read so.
-fn number_immediate(cell: u8, m: u16, v: i64) -> Field
+fn number_immediate(cell: u8, m: u16, v: i64) -> WideField
     requires { ⌜ homeOf (nameOf m) false ≡ Home.Modimm cell ⌝ }
-    ensures { λ r. ⌜ fieldAnswer r ≡ immediateOf (nameOf m) (Operand.Imm v) ⌝ }
+    ensures { λ r. ⌜ wideFieldAnswer r ≡ immediateOf (nameOf m) (Operand.Imm v) ⌝ }
 {
     let t = candidate(cell, m, signed::pattern_of(v));
     if immediate_reads(m, v, t) {
-        return Field::Is(t);
+        return WideField::Is(t);
     }
-    Field::Refused(Refusal::NoSuchValue)
+    WideField::Refused(Refusal::NoSuchValue)
 }
 
 // op:cmode:imm8 of a float.
-fn float_immediate(x: f64) -> Field
-    ensures { λ r. ⌜ fieldAnswer r ≡ immediateOf "vmov.f32" (Operand.Float x) ⌝ }
+fn float_immediate(x: f64) -> WideField
+    ensures { λ r. ⌜ wideFieldAnswer r ≡ immediateOf "vmov.f32" (Operand.Float x) ⌝ }
 {
     let found = floats::float_imm8(x);
     match found {
-        FloatFound::Imm8(b) => Field::Is(FLOATS + b as u16),
-        FloatFound::NoImm8 => Field::Refused(Refusal::NoSuchValue),
+        FloatFound::Imm8(b) => WideField::Is(FLOATS + b as u16),
+        FloatFound::NoImm8 => WideField::Refused(Refusal::NoSuchValue),
     }
 }
 
 // op:cmode:imm8 of a mnemonic and its second operand.
-pub fn immediate(cell: u8, m: u16, o: Operand) -> Field
+pub fn immediate(cell: u8, m: u16, o: Operand) -> WideField
     requires { ⌜ homeOf (nameOf m) false ≡ Home.Modimm cell ⌝ }
-    ensures { λ r. ⌜ fieldAnswer r ≡ immediateIn (nameOf m) o ⌝ }
+    ensures { λ r. ⌜ wideFieldAnswer r ≡ immediateIn (nameOf m) o ⌝ }
 {
     match o {
         Operand::Imm(v) => {
             if m == VMOV_F32 {
-                return Field::Refused(Refusal::WrongForm);
+                return WideField::Refused(Refusal::WrongForm);
             }
             number_immediate(cell, m, v)
         }
@@ -165,12 +165,12 @@ pub fn immediate(cell: u8, m: u16, o: Operand) -> Field
             if m == VMOV_F32 {
                 return float_immediate(x);
             }
-            Field::Refused(Refusal::WrongForm)
+            WideField::Refused(Refusal::WrongForm)
         }
-        Operand::D(_) => Field::Refused(Refusal::WrongForm),
-        Operand::Q(_) => Field::Refused(Refusal::WrongForm),
-        Operand::S(_) => Field::Refused(Refusal::WrongForm),
-        Operand::Other => Field::Refused(Refusal::WrongForm),
-        Operand::Absent => Field::Refused(Refusal::WrongForm),
+        Operand::D(_) => WideField::Refused(Refusal::WrongForm),
+        Operand::Q(_) => WideField::Refused(Refusal::WrongForm),
+        Operand::S(_) => WideField::Refused(Refusal::WrongForm),
+        Operand::Other => WideField::Refused(Refusal::WrongForm),
+        Operand::Absent => WideField::Refused(Refusal::WrongForm),
     }
 }

@@ -10,15 +10,18 @@ use homes::Home;
 use insn::Operand;
 use insn::Refusal;
 use writings::Field;
+use writings::WideField;
 use writings::Writing;
 
 // The pair of the place op:cmode:imm8 and the register D:Vd.
-fn modimm_pair(t: u16, quad: bool, d: u16) -> Writing
+fn modimm_pair(t: u16, quad: bool, d: u8) -> Writing
     ensures { λ r. ⌜ writingAnswer r ≡ accepted (modimmPair t quad d) ⌝ }
 {
+    let cell = (t / 256) as u8;
+    let imm8 = (t % 256) as u8;
     Writing::Wrote(
-        fields::first_halfword(t / 128, 1, d / 16, t / 16 % 8),
-        fields::second_halfword(d, t / 256, 0, writings::as_bit(quad), t / 4096, 1, t),
+        fields::first_halfword(imm8 / 128, 1, d / 16, imm8 / 16 % 8),
+        fields::second_halfword(d, cell, 0, writings::as_bit(quad), cell / 16, 1, imm8),
     )
 }
 
@@ -35,8 +38,8 @@ pub fn encode_modimm(cell: u8, m: u16, count: u8, a: Operand, b: Operand) -> Wri
     let place = immediate_values::immediate(cell, m, b);
     match register {
         Field::Is(d) => match place {
-            Field::Is(t) => modimm_pair(t, quad, d),
-            Field::Refused(f) => Writing::Refused(f),
+            WideField::Is(t) => modimm_pair(t, quad, d),
+            WideField::Refused(f) => Writing::Refused(f),
         },
         Field::Refused(f) => Writing::Refused(f),
     }

@@ -15,26 +15,25 @@ use writings::Writing;
 ghost use Rattle.tables.specs.Lengths.{classLengths};
 
 // The bit at B, by the row's class.
-fn bit_b(class: ShiftClass, quad: bool, cell: u8) -> u16
+fn bit_b(class: ShiftClass, quad: bool, cell: u8) -> u8
     ensures { λ r. ⌜ r ≡ bitB class quad cell ⌝ }
 {
     match class {
         ShiftClass::Right => writings::as_bit(quad),
         ShiftClass::Left => writings::as_bit(quad),
-        ShiftClass::Narrow => (cell / 4 % 2) as u16,
-        ShiftClass::Long => (cell / 4 % 2) as u16,
+        ShiftClass::Narrow => cell / 4 % 2,
+        ShiftClass::Long => cell / 4 % 2,
         ShiftClass::Convert => writings::as_bit(quad),
     }
 }
 
 // The pair of the cell U:A:B:size in a row of the class, the amount L:imm6 and the registers D:Vd and M:Vm.
-fn shift_pair(class: ShiftClass, cell: u8, quad: bool, t: u16, d: u16, m: u16) -> Writing
+fn shift_pair(class: ShiftClass, cell: u8, quad: bool, t: u8, d: u8, m: u8) -> Writing
     ensures { λ r. ⌜ writingAnswer r ≡ accepted (shiftPair cell (bitB class quad cell) t d m) ⌝ }
 {
-    let k = cell as u16;
     Writing::Wrote(
-        fields::first_halfword(k / 128, 1, d / 16, t),
-        fields::second_halfword(d, k / 8, t / 64, bit_b(class, quad, cell), m / 16, 1, m),
+        fields::first_halfword(cell / 128, 1, d / 16, t),
+        fields::second_halfword(d, cell / 8, t / 64, bit_b(class, quad, cell), m / 16, 1, m),
     )
 }
 

@@ -9,13 +9,12 @@ use writings::Fields;
 use writings::Writing;
 
 // The pair of the cell U:A:size and the registers D:Vd, N:Vn and M:Vm.
-fn diff_pair(cell: u8, d: u16, n: u16, m: u16) -> Writing
+fn diff_pair(cell: u8, d: u8, n: u8, m: u8) -> Writing
     ensures { λ r. ⌜ writingAnswer r ≡ accepted (diffPair cell d n m) ⌝ }
 {
-    let k = cell as u16;
     Writing::Wrote(
-        fields::first_halfword(k / 64, 1, d / 16, k % 4 * 16 + n % 16),
-        fields::second_halfword(d, k / 4, n / 16, 0, m / 16, 0, m),
+        fields::first_halfword(cell / 64, 1, d / 16, cell % 4 * 16 + n % 16),
+        fields::second_halfword(d, cell / 4, n / 16, 0, m / 16, 0, m),
     )
 }
 

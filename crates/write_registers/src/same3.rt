@@ -15,18 +15,25 @@ use writings::Writing;
 const VORR_CELL: u8 = 14;
 
 // The pair of the cell U:opc:B:size and the registers D:Vd, N:Vn and M:Vm.
-fn same3_pair(cell: u8, quad: bool, d: u16, n: u16, m: u16) -> Writing
+fn same3_pair(cell: u8, quad: bool, d: u8, n: u8, m: u8) -> Writing
     ensures { λ r. ⌜ writingAnswer r ≡ accepted (same3Pair cell quad d n m) ⌝ }
 {
-    let k = cell as u16;
     Writing::Wrote(
-        fields::first_halfword(k / 128, 0, d / 16, k % 4 * 16 + n % 16),
-        fields::second_halfword(d, k / 8, n / 16, writings::as_bit(quad), m / 16, k / 4, m),
+        fields::first_halfword(cell / 128, 0, d / 16, cell % 4 * 16 + n % 16),
+        fields::second_halfword(
+            d,
+            cell / 8,
+            n / 16,
+            writings::as_bit(quad),
+            m / 16,
+            cell / 4,
+            m,
+        ),
     )
 }
 
 // The pair of a mnemonic's cell and its operands' numbers.
-fn same3_form(cell: u8, m: u16, quad: bool, a: u16, b: u16, c: u16) -> Writing
+fn same3_form(cell: u8, m: u16, quad: bool, a: u8, b: u8, c: u8) -> Writing
     ensures { λ r. ⌜ writingAnswer r ≡ same3Form cell (nameOf m) quad (numbers a b c) ⌝ }
 {
     if names::is_pairwise_quad(quad, m) {

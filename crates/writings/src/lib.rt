@@ -13,15 +13,21 @@ pub enum Writing {
     Refused(Refusal),
 }
 
-// The number of a field that carries it, or the refusal.
+// The number of a register, or of a shift amount, in the fields that carry it; or the refusal.
 pub enum Field {
+    Is(u8),
+    Refused(Refusal),
+}
+
+// The number of a modified immediate, 13 bits, in the fields that carry it; or the refusal.
+pub enum WideField {
     Is(u16),
     Refused(Refusal),
 }
 
 // What three operands stand for.
 pub enum Fields {
-    Are(u16, u16, u16),
+    Are(u8, u8, u8),
     Refused(Refusal),
 }
 
@@ -41,7 +47,7 @@ pub fn is_quad(o: Operand) -> bool
 }
 
 // The bit Q of a form.
-pub fn as_bit(quad: bool) -> u16
+pub fn as_bit(quad: bool) -> u8
     ensures { λ r. ⌜ r ≡ asBit quad ⌝ }
 {
     if quad {
@@ -74,14 +80,14 @@ pub fn register(quad: bool, reg: Operand) -> Field
         VectorBits::Are(q, d) => {
             if quad {
                 if q {
-                    return Field::Is(d as u16);
+                    return Field::Is(d);
                 }
                 return Field::Refused(Refusal::WrongForm);
             }
             if q {
                 return Field::Refused(Refusal::WrongForm);
             }
-            Field::Is(d as u16)
+            Field::Is(d)
         }
         VectorBits::Refused(f) => Field::Refused(f),
     }

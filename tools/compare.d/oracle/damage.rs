@@ -2,7 +2,7 @@
 
 use crate::record::{self, place, D, FLOAT, Q, WHOLE};
 use crate::samples::{address, mixed, pairs};
-use crate::values::{self, Place, COUNTS, FEW};
+use crate::values::{self, Place, AMOUNTS, COUNTS, FEW};
 use crate::{decode, Names, Record};
 use std::collections::BTreeMap;
 
@@ -44,7 +44,7 @@ impl Good {
 type Visit<'a> = &'a mut dyn FnMut(&Record);
 
 /// Every sort of damage, with what it is called.
-pub const SORTS: [(&str, fn(&Good, &Names, Visit)); 7] = [
+pub const SORTS: [(&str, fn(&Good, &Names, Visit)); 8] = [
     ("one place replaced", one_place),
     ("D and Q exchanged", exchanged),
     ("all places replaced", all_places),
@@ -52,6 +52,7 @@ pub const SORTS: [(&str, fn(&Good, &Names, Visit)); 7] = [
     ("numbers around immediates", immediates),
     ("floats around immediates", floats),
     ("at random", at_random),
+    ("amounts past 64", amounts),
 ];
 
 /// Each place of each good record by each kind, and by each bound of it.
@@ -144,6 +145,27 @@ fn at_random(good: &Good, _: &Names, visit: Visit) {
             visit(&by_chance(record, n as u64 * 1000 + turn, &places));
         }
     }
+}
+
+/// Each good record that has an amount, with amounts up to 64 and past it; and with registers that
+/// do not fit.
+fn amounts(good: &Good, _: &Names, visit: Visit) {
+    for record in good.records().filter(|record| has_amount(record)) {
+        for damaged in with_amounts(record) {
+            visit(&damaged);
+            visit(&with_exchanged(&damaged, 1));
+        }
+    }
+}
+
+/// Whether the third place is a whole number.
+pub fn has_amount(record: &Record) -> bool {
+    record[place(2)] == WHOLE
+}
+
+/// The record with each of the amounts up to 64 and past it.
+pub fn with_amounts(record: &Record) -> [Record; AMOUNTS.len()] {
+    AMOUNTS.map(|n| with_place(record, 2, (WHOLE, n as u64)))
 }
 
 fn by_chance(record: &Record, seed: u64, places: &[Place]) -> Record {

@@ -30,6 +30,24 @@ const WHOLES: [i64; 16] = [
     -256,
 ];
 
+/// Whole numbers at the end of the amounts and past it: what 8 bits leave of most of them is an amount.
+pub const AMOUNTS: [i64; 14] = [
+    64,
+    65,
+    128,
+    255,
+    256,
+    257,
+    264,
+    320,
+    (1 << 32) + 8,
+    i64::MAX,
+    -1,
+    -8,
+    -256,
+    i64::MIN,
+];
+
 /// Floats that no pair has, of every sort, and two that one has.
 const FLOATS: [f64; 14] = [
     0.0,

@@ -36,5 +36,4 @@ returns-5 c = rw (← c .before .before .before .vec-bits .ensures, c .before .b
 pub register-spec : {M : Type 1} → statement M
 register-spec =
     tie.close
-    (tie.spec (λ c κs. search needs) (λ c. search needs) (λ c. search needs) returns returns-2 returns-3 (λ c. search needs) (λ c. search needs)
-    returns-4 returns-5)
+    (tie.spec (λ c κs. search needs) (λ c. search needs) returns returns-2 returns-3 (λ c. search needs) returns-4 returns-5)

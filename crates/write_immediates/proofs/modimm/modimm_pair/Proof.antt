@@ -14,4 +14,6 @@ returns c =
     (ap accepted (modimm-packed (a .t) (a .quad) (a .d)))
 
 pub modimm-pair-spec : {M : Type 1} → statement M
-modimm-pair-spec = tie.close (tie.spec (λ c κs. search needs) (λ c κs. search needs) (λ c κs. search needs) returns)
+modimm-pair-spec =
+    tie.close
+    (tie.spec (λ c. search needs) (λ c. search needs) (λ c κs. search needs) (λ c κs. search needs) (λ c κs. search needs) returns)
