@@ -8,8 +8,9 @@ use native.Mathlib.Omega.{arith}
 use lib.Dec.{T, eqb, ltb, leb}
 use lib.IntN.{ℤ, pos, negsuc, natAbs}
 use lib.Signed.{ltZ, nonNeg}
-use mir.Syntax.{w8}
-use mir.Val.{Fits}
+use mir.Facts.{toZ-ofZ}
+use mir.Syntax.{w8, w64}
+use mir.Val.{Fits, SFits, toZ, ofZ}
 use borrow.Author.Tests.{eqb-true, eqb-false, leb-true, ltb-true, ltb-false, eq-eqb, ne-eqb, lt-ltb, le-ltb}
 use Rattle.laws.specs.Answer.{Answer, accepted, refused}
 use Rattle.laws.specs.Choice.{choose, both}
@@ -212,6 +213,15 @@ negative-outside (negsuc n) e = refl
 pub past-outside : (v : ℤ) → ltZ v (pos 0) ≡ false → ltZ (pos 64) v ≡ isOutside v
 past-outside (pos n) e = refl
 past-outside (negsuc n) e = wrong (sym e)
+
+-- a number that was handed on as 64 bits
+pub handed-on : (class : ShiftClass) (column : ℕ) {v : ℤ} {x : Answer ℕ} → SFits w64 v
+    → x ≡ amountIn class column (Imm (toZ w64 (ofZ w64 v))) → x ≡ amountIn class column (Imm v)
+handed-on class column f e = rw (toZ-ofZ f) at e
+
+-- what the test of the range said
+pub range-tested : {v : ℤ} {r b : Bool} → SFits w64 v → r ≡ isOutside (toZ w64 (ofZ w64 v)) → r ≡ b → isOutside v ≡ b
+range-tested f e t = sym (ap isOutside (toZ-ofZ f)) ∙ sym e ∙ t
 
 -- a number that is not outside is its own amount, and 8 bits hold it
 pub inside-is : (v : ℤ) → isOutside v ≡ false → pos (natAbs v) ≡ v

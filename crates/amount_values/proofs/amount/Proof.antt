@@ -1,14 +1,16 @@
 -- `amount_values::amount` meets its contract.
 -- Assumes nothing.
-use mir.Facts.{toZ-ofZ}
-use mir.Syntax.{w64}
 use borrow.Author.Needs.{needs}
 use Rattle.amount_values.specs.Amounts.{amountIn}
+use Rattle.amount_values.proofs.Amounts.{handed-on}
 use Rattle.amount_values.proofs.amount.Statement.{statement}
 use Rattle.amount_values.proofs.amount.Tie as tie
 
 returns : tie.Need-returns
-returns c = rw (c .before .before .o .given .1) (rw (toZ-ofZ {w = w64} {z = c .before .before .o .given .0 .0} (search needs)) at (c .number-place .ensures))
+returns c =
+    let s = c .before .before in
+    let a = s .before .before .args in
+    rw (s .o .given .1) (handed-on (a .class) (a .column) {v = s .o .given .0 .0} (search needs) (c .number-place .ensures))
 
 returns-2 : tie.Need-returns-2
 unfolding amountIn
