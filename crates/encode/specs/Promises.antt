@@ -21,6 +21,7 @@ use Rattle.writings.specs.Forms.{isQuad, registerIn}
 use Rattle.amount_values.specs.Range.{isOutside}
 use Rattle.encode.specs.Writing.{writing}
 
+-- whether an operand was taken for what the form asks
 abbrev pub isAccepted : Answer ℕ → Bool
 isAccepted (accepted n) = true
 isAccepted (refused n) = false
@@ -31,7 +32,8 @@ registersFit class a b =
     both (isAccepted (registerIn (classLengths class (isQuad a) .d) a))
     (isAccepted (registerIn (classLengths class (isQuad a) .m) b))
 
--- in every row of table A7-12, a number outside 0 to 64 is refused with 9 wherever the registers fit, whatever its low bits are; else with 8
+-- a record that is named as a cell of table A7-12, in any row, with a number outside 0 to 64 for its amount:
+-- refused with 9 wherever its registers fit the row, whatever the number's low bits are, and else with 8
 abbrev pub OutsideRefused : Type 0
 OutsideRefused =
     (i : Insn) (row column : ℕ) (v : ℤ) → row < 64 → column < 4

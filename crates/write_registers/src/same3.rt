@@ -10,6 +10,7 @@ use insn::Refusal;
 use names::VORR;
 use writings::Fields;
 use writings::Writing;
+use writings::as_bit;
 
 // The cell of vorr: U=0, opc=0001, B=1, size=2.
 const VORR_CELL: u8 = 14;
@@ -20,15 +21,7 @@ fn same3_pair(cell: u8, quad: bool, d: u8, n: u8, m: u8) -> Writing
 {
     Writing::Wrote(
         fields::first_halfword(cell / 128, 0, d / 16, cell % 4 * 16 + n % 16),
-        fields::second_halfword(
-            d,
-            cell / 8,
-            n / 16,
-            writings::as_bit(quad),
-            m / 16,
-            cell / 4,
-            m,
-        ),
+        fields::second_halfword(d, cell / 8, n / 16, as_bit(quad), m / 16, cell / 4, m),
     )
 }
 
