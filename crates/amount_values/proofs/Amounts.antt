@@ -5,13 +5,12 @@ use mathlib.Core.Bool.{Bool, true, false, not}
 use mathlib.Core.Logic.{_≢_}
 use Prim.Native.Nat.{ℕ, _+_, _-_, _*_, _%_, _^_, _<_, _≤_}
 use native.Mathlib.Omega.{arith}
-use lib.Dec.{T, eqb, ltb, leb}
-use lib.IntN.{ℤ, pos, negsuc, natAbs}
-use lib.Signed.{ltZ, nonNeg}
+use lib.Dec.{eqb, ltb, leb}
+use lib.IntN.{ℤ, pos}
 use mir.Facts.{toZ-ofZ}
-use mir.Syntax.{w8, w64}
-use mir.Val.{Fits, SFits, toZ, ofZ}
-use borrow.Author.Tests.{eqb-true, eqb-false, leb-true, ltb-true, ltb-false, eq-eqb, ne-eqb, lt-ltb, le-ltb}
+use mir.Syntax.{w64}
+use mir.Val.{SFits, toZ, ofZ}
+use borrow.Author.Tests.{eqb-true, eqb-false, leb-true, eq-eqb, ne-eqb, lt-ltb, le-ltb}
 use Rattle.laws.specs.Answer.{Answer, accepted, refused}
 use Rattle.laws.specs.Choice.{choose, both}
 use Rattle.laws.proofs.Range.{values, agree, agree2}
@@ -205,33 +204,7 @@ module _ (column k : ℕ) (hc : column < 4) (hk : k ≤ 64) where
   pub convert-none : column ≢ 0 → refused 9 ≡ amountIn Convert column (Imm (pos k))
   convert-none n = no-down ∙ rw (ne-eqb column 0 n) at (amount-place Convert column k hc hk)
 
--- the code's tests of the range
-pub negative-outside : (v : ℤ) → ltZ v (pos 0) ≡ true → true ≡ isOutside v
-negative-outside (pos n) e = absurd (let h = ltb-true n 0 e in let z : ⊥ = omega arith in z)
-negative-outside (negsuc n) e = refl
-
-pub past-outside : (v : ℤ) → ltZ v (pos 0) ≡ false → ltZ (pos 64) v ≡ isOutside v
-past-outside (pos n) e = refl
-past-outside (negsuc n) e = wrong (sym e)
-
 -- a number that was handed on as 64 bits
 pub handed-on : (class : ShiftClass) (column : ℕ) {v : ℤ} {x : Answer ℕ} → SFits w64 v
     → x ≡ amountIn class column (Imm (toZ w64 (ofZ w64 v))) → x ≡ amountIn class column (Imm v)
 handed-on class column f e = rw (toZ-ofZ f) at e
-
--- what the test of the range said
-pub range-tested : {v : ℤ} {r b : Bool} → SFits w64 v → r ≡ isOutside (toZ w64 (ofZ w64 v)) → r ≡ b → isOutside v ≡ b
-range-tested f e t = sym (ap isOutside (toZ-ofZ f)) ∙ sym e ∙ t
-
--- a number that is not outside is its own amount, and 8 bits hold it
-pub inside-is : (v : ℤ) → isOutside v ≡ false → pos (natAbs v) ≡ v
-inside-is (pos n) e = refl
-inside-is (negsuc n) e = wrong (sym e)
-
-pub inside-le : (v : ℤ) → isOutside v ≡ false → natAbs v ≤ 64
-inside-le (pos n) e = ltb-false 64 n e
-inside-le (negsuc n) e = wrong (sym e)
-
-pub inside-asks : (v : ℤ) → isOutside v ≡ false → T (nonNeg v) × Fits w8 (natAbs v)
-inside-asks (pos n) e = let h = ltb-false 64 n e in (tt, omega arith)
-inside-asks (negsuc n) e = wrong (sym e)

@@ -1,7 +1,7 @@
 -- `amount_values::is_outside` meets its contract.
 -- Assumes nothing.
 use mir.Facts.{toZ-ofZ}
-use Rattle.amount_values.proofs.Amounts.{negative-outside, past-outside}
+use Rattle.amount_values.proofs.Range.{negative-outside, past-outside}
 use Rattle.amount_values.proofs.is_outside.Statement.{statement}
 use Rattle.amount_values.proofs.is_outside.Tie as tie
 

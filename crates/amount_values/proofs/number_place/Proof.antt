@@ -3,7 +3,8 @@
 use mathlib.Core.Path.{sym}
 use mir.Facts.{toZ-ofZ}
 use borrow.Author.Needs.{needs}
-use Rattle.amount_values.proofs.Amounts.{range-tested, outside-nine, inside-is, inside-le, inside-asks}
+use Rattle.amount_values.proofs.Amounts.{outside-nine}
+use Rattle.amount_values.proofs.Range.{range-tested, inside-is, inside-le, inside-asks}
 use Rattle.amount_values.proofs.number_place.Statement.{statement}
 use Rattle.amount_values.proofs.number_place.Tie as tie
 
