@@ -1,7 +1,7 @@
 //! The replay lists: a fixed sample of the original's answers as lines of text. tools/replay says
 //! how a line is laid out.
 
-use oracle::damage::{has_amount, with_amounts, with_exchanged, with_place, Good, SORTS};
+use oracle::damage::{around_amounts, has_amount, with_exchanged, with_place, Good, SORTS};
 use oracle::record::{self, place, Record, WHOLE};
 use oracle::samples::{address, mixed};
 use oracle::writing::Forms;
@@ -53,7 +53,8 @@ fn written_line(record: &Record, names: &Names, forms: &Forms) -> String {
 }
 
 /// The records of the pairs that are read, vorr with equal sources, amounts at both ends and one
-/// past them, amounts past 64, pairwise names with Q registers, and some of each sort of damage.
+/// past them, 64 and numbers outside 0 to 64 as amounts, pairwise names with Q registers, and some of
+/// each sort of damage.
 fn chosen_records(names: &Names, forms: &Forms) -> BTreeSet<Record> {
     let mut records = BTreeSet::new();
     for (hw1, hw2) in chosen::pairs() {
@@ -65,7 +66,7 @@ fn chosen_records(names: &Names, forms: &Forms) -> BTreeSet<Record> {
         let (low, high) = forms.amounts(record[0]).expect("an amount");
         let amounts = [low - 1, low, high, high + 1];
         records.extend(amounts.map(|n| with_place(record, 2, (WHOLE, n as u64))));
-        records.extend(with_amounts(record));
+        records.extend(around_amounts(record));
     }
     let copies = records.iter().filter(|record| record[0] == names.number("vmov"));
     let spelled: Vec<_> = copies.map(|record| as_vorr(record, names)).collect();

@@ -1,4 +1,4 @@
-// The place L:imm6 of a shift amount, both 8-bit numbers once the number is known to be in range.
+// The place L:imm6 of a shift amount. Once a number is known to be in range, it and its place are 8-bit numbers.
 ghost use mathlib.Core.Path.{_≡_};
 ghost use Prim.Native.Nat.{_+_, _-_, _*_, _<_, _≤_};
 ghost use lib.Dec.{eqb, ltb};
@@ -75,10 +75,7 @@ fn amount_place(class: ShiftClass, column: u8, k: u8) -> Field
 fn is_outside(v: i64) -> bool
     ensures { λ r. ⌜ r ≡ isOutside v ⌝ }
 {
-    if v < 0 {
-        return true;
-    }
-    LARGEST < v
+    v < 0 || LARGEST < v
 }
 
 // L:imm6 of a number as an amount: its range is tested first, since 8 bits of 256 would be those of 0.

@@ -12,7 +12,6 @@ use lib.Text.{eqt}
 use Rattle.laws.specs.Answer.{Answer, accepted, refused, andThen}
 use Rattle.laws.specs.Choice.{choose, both}
 use Rattle.laws.proofs.Never.{wrong}
-use Rattle.laws.proofs.Range.{values, agree}
 use Rattle.laws.proofs.Tests.{sides}
 use Rattle.insn.specs.Record.{placeAt}
 use Rattle.insn.specs.declared.Operand.{Operand}
@@ -24,10 +23,10 @@ use Rattle.tables.specs.Lengths.{classLengths}
 use Rattle.tables.specs.declared.ShiftClass.{ShiftClass}
 use Rattle.tables.specs.declared.ShiftClass.the-variants.{Right}
 use Rattle.tables.proofs.Cells.{cell4, flat-cell}
-use Rattle.immediate_tables.specs.Shift.{shiftRows, shiftCells, shiftClasses}
+use Rattle.immediate_tables.specs.Shift.{shiftCells, shiftClasses}
 use Rattle.homes.specs.Home.{homeOf}
 use Rattle.homes.specs.declared.Home.the-variants.{Shift}
-use Rattle.homes.proofs.Cells.{firstCell, classAt, shift-home}
+use Rattle.homes.proofs.Cells.{firstCell, classAt, first-class, shift-home}
 use Rattle.fields.specs.Halfwords.{field}
 use Rattle.fields.specs.Registers.{bits, vecBits}
 use Rattle.writings.specs.Forms.{Pair, Three, isQuad, ofLength, registerIn, allThree}
@@ -73,11 +72,6 @@ classed-outside class cell a b v out =
     rw (outside-nine class (field 1 0 cell) v out)
     (all-refused _ _ (shiftForm class cell (isQuad a)) (register-eight (classLengths class (isQuad a) .d) a) (register-eight (classLengths class (isQuad a) .m) b))
 
--- the first cell of a name is in a row of the same class
-same-class : (k : ℕ) → k < 256 → eqt (cell4 shiftCells k) "" ≡ false → classAt (firstCell (classAt k) k) ≡ classAt k
-unfolding values shiftRows shiftCells shiftClasses
-same-class k h e = rw e at (agree (λ (k : ℕ). choose (eqt (cell4 shiftCells k) "") (classAt k) (classAt (firstCell (classAt k) k))) classAt 256 refl k h)
-
 -- a name that is not blank is a mnemonic's
 known : (m : ℕ) → eqt (nameOf m) "" ≡ false → m < 346
 known m e = sides 346 m (λ h. h) (λ h. wrong (sym e ∙ unnamed m h))
@@ -103,4 +97,4 @@ outsideRefused i row column v hr hc name filled three third out =
     home = rw (number-of (i .mnemonic) (cell4 shiftCells k) (known (i .mnemonic) (rw name filled)) (name ∙ sym its-cell)) at (shift-home k (omega arith) filled-k)
 
     class-is : classAt cell ≡ getD shiftClasses row Right
-    class-is = same-class k (omega arith) filled-k ∙ ap (λ (r : ℕ). getD shiftClasses r Right) (digits-div row hc)
+    class-is = first-class k (omega arith) filled-k ∙ ap (λ (r : ℕ). getD shiftClasses r Right) (digits-div row hc)

@@ -21,7 +21,7 @@ use Rattle.writings.specs.Forms.{isQuad, registerIn}
 use Rattle.amount_values.specs.Range.{isOutside}
 use Rattle.encode.specs.Writing.{writing}
 
--- whether an operand was taken for what the form asks
+-- whether an answer accepts
 abbrev pub isAccepted : Answer ℕ → Bool
 isAccepted (accepted n) = true
 isAccepted (refused n) = false

@@ -125,3 +125,9 @@ classAt k = getD shiftClasses (k / 4) Right
 pub shift-home : (k : ℕ) → k < 256 → eqt (cell4 shiftCells k) "" ≡ false → homeAt true (numberOf (cell4 shiftCells k)) ≡ Shift (firstCell (classAt k) k)
 unfolding values shiftRows shiftCells shiftClasses names numberOf homes
 shift-home = at-cell (cell4 shiftCells) (λ (k : ℕ). Shift (firstCell (classAt k) k)) true 256 refl
+
+-- the first cell of a name is in a row of the same class
+pub first-class : (k : ℕ) → k < 256 → eqt (cell4 shiftCells k) "" ≡ false → classAt (firstCell (classAt k) k) ≡ classAt k
+unfolding values shiftRows shiftCells shiftClasses
+first-class k h e =
+    rw e at (agree (λ (k : ℕ). choose (eqt (cell4 shiftCells k) "") (classAt k) (classAt (firstCell (classAt k) k))) classAt 256 refl k h)

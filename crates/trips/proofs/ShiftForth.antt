@@ -27,7 +27,7 @@ use Rattle.tables.specs.declared.ShiftClass.{ShiftClass}
 use Rattle.tables.specs.declared.ShiftClass.the-variants.{Right, Left, Narrow, Long, Convert}
 use Rattle.homes.specs.declared.Home.the-variants.{Shift, Vmovl}
 use Rattle.tables.proofs.Cells.{cell4}
-use Rattle.homes.proofs.Cells.{classAt, firstCell, shift-home, vmovl-home}
+use Rattle.homes.proofs.Cells.{classAt, firstCell, first-class, shift-home, vmovl-home}
 use Rattle.laws.proofs.Search.{only}
 use Rattle.laws.proofs.Never.{never}
 use Rattle.fields.specs.Halfwords.{bit, field, first, second}
@@ -134,11 +134,6 @@ first-column Left k = omega arith
 first-column Narrow k = omega arith
 first-column Long k = omega arith
 first-column Convert k = omega arith
-
-first-class : (k : ℕ) → k < 256 → eqt (cell4 shiftCells k) "" ≡ false → classAt (firstCell (classAt k) k) ≡ classAt k
-unfolding values shiftRows shiftCells shiftClasses
-first-class k h e =
-    rw e at (agree (λ (k : ℕ). choose (eqt (cell4 shiftCells k) "") (classAt k) (classAt (firstCell (classAt k) k))) classAt 256 refl k h)
 
 long-cell : (k : ℕ) → k < 256 → isLong (classAt k) ≡ true → vshllCell (bit 7 k * 4 + k % 4) ≡ k
 unfolding values shiftRows shiftClasses

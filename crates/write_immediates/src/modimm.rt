@@ -12,6 +12,7 @@ use insn::Refusal;
 use writings::Field;
 use writings::WideField;
 use writings::Writing;
+use writings::as_bit;
 
 // The pair of the place op:cmode:imm8 and the register D:Vd.
 fn modimm_pair(t: u16, quad: bool, d: u8) -> Writing
@@ -21,7 +22,7 @@ fn modimm_pair(t: u16, quad: bool, d: u8) -> Writing
     let imm8 = (t % 256) as u8;
     Writing::Wrote(
         fields::first_halfword(imm8 / 128, 1, d / 16, imm8 / 16 % 8),
-        fields::second_halfword(d, cell, 0, writings::as_bit(quad), cell / 16, 1, imm8),
+        fields::second_halfword(d, cell, 0, as_bit(quad), cell / 16, 1, imm8),
     )
 }
 

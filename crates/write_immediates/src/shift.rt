@@ -12,6 +12,7 @@ use insn::Refusal;
 use tables::ShiftClass;
 use writings::Fields;
 use writings::Writing;
+use writings::as_bit;
 ghost use Rattle.tables.specs.Lengths.{classLengths};
 
 // The bit at B, by the row's class.
@@ -19,11 +20,11 @@ fn bit_b(class: ShiftClass, quad: bool, cell: u8) -> u8
     ensures { λ r. ⌜ r ≡ bitB class quad cell ⌝ }
 {
     match class {
-        ShiftClass::Right => writings::as_bit(quad),
-        ShiftClass::Left => writings::as_bit(quad),
+        ShiftClass::Right => as_bit(quad),
+        ShiftClass::Left => as_bit(quad),
         ShiftClass::Narrow => cell / 4 % 2,
         ShiftClass::Long => cell / 4 % 2,
-        ShiftClass::Convert => writings::as_bit(quad),
+        ShiftClass::Convert => as_bit(quad),
     }
 }
 

@@ -13,13 +13,13 @@ pub enum Writing {
     Refused(Refusal),
 }
 
-// The number of a register, or of a shift amount, in the fields that carry it; or the refusal.
+// The number of a register, or the place L:imm6 of a shift amount; or the refusal.
 pub enum Field {
     Is(u8),
     Refused(Refusal),
 }
 
-// The number of a modified immediate, 13 bits, in the fields that carry it; or the refusal.
+// The place op:cmode:imm8 of a modified immediate, 13 bits; or the refusal.
 pub enum WideField {
     Is(u16),
     Refused(Refusal),

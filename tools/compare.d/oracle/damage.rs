@@ -2,7 +2,7 @@
 
 use crate::record::{self, place, D, FLOAT, Q, WHOLE};
 use crate::samples::{address, mixed, pairs};
-use crate::values::{self, Place, AMOUNTS, COUNTS, FEW};
+use crate::values::{self, Place, AROUND_AMOUNTS, COUNTS, FEW};
 use crate::{decode, Names, Record};
 use std::collections::BTreeMap;
 
@@ -52,7 +52,7 @@ pub const SORTS: [(&str, fn(&Good, &Names, Visit)); 8] = [
     ("numbers around immediates", immediates),
     ("floats around immediates", floats),
     ("at random", at_random),
-    ("amounts past 64", amounts),
+    ("numbers around amounts", amounts),
 ];
 
 /// Each place of each good record by each kind, and by each bound of it.
@@ -147,11 +147,11 @@ fn at_random(good: &Good, _: &Names, visit: Visit) {
     }
 }
 
-/// Each good record that has an amount, with amounts up to 64 and past it; and with registers that
-/// do not fit.
+/// Each good record that has an amount, with 64 and thirteen numbers outside 0 to 64 in its place, as
+/// it is and with registers that do not fit.
 fn amounts(good: &Good, _: &Names, visit: Visit) {
     for record in good.records().filter(|record| has_amount(record)) {
-        for damaged in with_amounts(record) {
+        for damaged in around_amounts(record) {
             visit(&damaged);
             visit(&with_exchanged(&damaged, 1));
         }
@@ -163,9 +163,9 @@ pub fn has_amount(record: &Record) -> bool {
     record[place(2)] == WHOLE
 }
 
-/// The record with each of the amounts up to 64 and past it.
-pub fn with_amounts(record: &Record) -> [Record; AMOUNTS.len()] {
-    AMOUNTS.map(|n| with_place(record, 2, (WHOLE, n as u64)))
+/// The record with 64 and with thirteen numbers outside 0 to 64 for its amount.
+pub fn around_amounts(record: &Record) -> [Record; AROUND_AMOUNTS.len()] {
+    AROUND_AMOUNTS.map(|n| with_place(record, 2, (WHOLE, n as u64)))
 }
 
 fn by_chance(record: &Record, seed: u64, places: &[Place]) -> Record {

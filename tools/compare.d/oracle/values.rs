@@ -30,8 +30,9 @@ const WHOLES: [i64; 16] = [
     -256,
 ];
 
-/// Whole numbers at the end of the amounts and past it: what 8 bits leave of most of them is an amount.
-pub const AMOUNTS: [i64; 14] = [
+/// The largest amount, 64, and thirteen numbers outside 0 to 64. What 8 bits leave of seven of them
+/// is an amount.
+pub const AROUND_AMOUNTS: [i64; 14] = [
     64,
     65,
     128,
