@@ -30,7 +30,7 @@ use Rattle.tables.proofs.Cells.{cell4}
 use Rattle.homes.proofs.Cells.{classAt, firstCell, first-class, shift-home, vmovl-home}
 use Rattle.laws.proofs.Search.{only}
 use Rattle.laws.proofs.Never.{never}
-use Rattle.fields.specs.Halfwords.{bit, field, first, second}
+use Rattle.fields.specs.Halfwords.{bit, field}
 use Rattle.fields.specs.Registers.{vecOf}
 use Rattle.fields.proofs.Promises.{firstPacked, secondPacked}
 use Rattle.amounts.specs.Shifts.{isEscape, amountOf}
