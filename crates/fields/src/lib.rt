@@ -49,22 +49,16 @@ pub fn vec_bits(reg: Operand) -> VectorBits
 pub fn first_halfword(u: u8, a: u8, d: u8, low: u8) -> u16
     ensures { λ r. ⌜ r ≡ first (u % 2) (a % 2) (d % 2) (low % 64) ⌝ }
 {
-    0xef00
-        + (u % 2) as u16 * 0x1000
-        + (a % 2) as u16 * 0x80
-        + (d % 2) as u16 * 0x40
-        + (low % 64) as u16
+    let upper = 0xef + u % 2 * 0x10;
+    let lower = a % 2 * 0x80 + d % 2 * 0x40 + low % 64;
+    upper as u16 * 0x100 + lower as u16
 }
 
 // The second halfword of a pair, from the low bits of its fields.
 pub fn second_halfword(vd: u8, op: u8, b7: u8, b6: u8, b5: u8, b4: u8, low: u8) -> u16
     ensures { λ r. ⌜ r ≡ second (vd % 16) (op % 16) (b7 % 2) (b6 % 2) (b5 % 2) (b4 % 2) (low % 16) ⌝ }
 {
-    (vd % 16) as u16 * 0x1000
-        + (op % 16) as u16 * 0x100
-        + (b7 % 2) as u16 * 0x80
-        + (b6 % 2) as u16 * 0x40
-        + (b5 % 2) as u16 * 0x20
-        + (b4 % 2) as u16 * 0x10
-        + (low % 16) as u16
+    let upper = vd % 16 * 0x10 + op % 16;
+    let lower = b7 % 2 * 0x80 + b6 % 2 * 0x40 + b5 % 2 * 0x20 + b4 % 2 * 0x10 + low % 16;
+    upper as u16 * 0x100 + lower as u16
 }
