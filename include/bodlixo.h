@@ -51,9 +51,9 @@ uint32_t bodlixo_translate(const uint8_t *sheet, size_t len, uint16_t *out, size
 uint32_t bodlixo_evaluate(const uint8_t *sheet, size_t len, uint16_t *out, size_t out_len, uint64_t *file,
                           size_t file_len, uint64_t budget, uint64_t *executed, uint64_t *at);
 
-/* Lists the pairs of `len` bytes in `out`, and puts the listing's size in bytes in *size. An out that is shorter than
-   the listing is left untouched, and the answer is 14 with *size 0; 901132 bytes are always enough. Bytes that are no
-   listing's are listed as the one line that refuses them, and the answer is 0. */
+/* Lists the pairs of `len` bytes in `out`, with the totals as the last line, and puts the listing's size in bytes in
+   *size. An out that is shorter than the listing is left untouched, and the answer is 14 with *size 0; 901190 bytes are
+   always enough. Bytes that are no listing's are listed as the one line that refuses them, and the answer is 0. */
 uint32_t bodlixo_list(const uint8_t *input, size_t len, uint8_t *out, size_t out_len, uint64_t *size);
 
 #endif

@@ -12,6 +12,8 @@ use Rattle.names.specs.Names.{codes}
 use Rattle.decode.specs.Reading.{reading}
 use Rattle.text.specs.Text.{decimal, hex4}
 use Rattle.display.specs.Operands.{insnText}
+use Rattle.totals.specs.declared.Sort.{Sort}
+use Rattle.totals.specs.Totals.{sortOf, totalsText}
 
 -- the halfword whose lower byte is at place k
 abbrev pub halfwordAt : List ℕ → ℕ → ℕ
@@ -30,6 +32,10 @@ lineText i hw1 hw2 = decimal i ++ 32 ∷ hex4 hw1 ++ 32 ∷ hex4 hw2 ++ 32 ∷ r
 unfoldable pub pairLine : List ℕ → ℕ → List ℕ
 pairLine bytes i = lineText i (halfwordAt bytes (4 * i)) (halfwordAt bytes (4 * i + 2))
 
+-- the sort of pair i of the bytes
+unfoldable pub pairSort : List ℕ → ℕ → Sort
+pairSort bytes i = sortOf (halfwordAt bytes (4 * i)) (halfwordAt bytes (4 * i + 2))
+
 -- the numbers below n
 unfoldable pub numbersBelow : ℕ → List ℕ
 numbersBelow zero = []
@@ -39,11 +45,15 @@ numbersBelow (suc n) = numbersBelow n ++ n ∷ []
 unfoldable pub isListable : ℕ → Bool
 isListable n = both (eqb (n % 4) 0) (leb n 65536)
 
--- the lines: the number of pairs, and a line for each pair
+-- the sorts of the pairs' lines
+abbrev pub pairSorts : List ℕ → List Sort
+pairSorts bytes = map (pairSort bytes) (numbersBelow (length bytes / 4))
+
+-- the lines: the number of pairs, a line for each pair, and the totals
 unfoldable pub lines : List ℕ → List (List ℕ)
 lines bytes =
     choose (isListable (length bytes))
-    ((codes "pairs " ++ decimal (length bytes / 4)) ∷ map (pairLine bytes) (numbersBelow (length bytes / 4)))
+    ((codes "pairs " ++ decimal (length bytes / 4)) ∷ map (pairLine bytes) (numbersBelow (length bytes / 4)) ++ totalsText (pairSorts bytes) ∷ [])
     (codes "refused 11" ∷ [])
 
 -- every line ends in one byte 10

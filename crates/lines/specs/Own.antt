@@ -6,4 +6,4 @@ use Rattle.lines.specs.Listing.{isListable}
 
 -- no listing of n bytes is longer
 abbrev pub most : ℕ → ℕ
-most n = choose (isListable n) (12 + 55 * (n / 4)) 11
+most n = choose (isListable n) (12 + 55 * (n / 4) + 58) 11

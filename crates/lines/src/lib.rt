@@ -4,42 +4,72 @@ ghost use mathlib.Core.List.{_∷_, [], _++_, map};
 ghost use Prim.Native.Nat.{_+_, _*_, _/_, _<_, _≤_, _^_};
 ghost use lib.ListN.{length};
 ghost use Rattle.names.specs.Own.{NameTable};
+ghost use Rattle.laws.specs.Answer.{refused};
+ghost use Rattle.insn.specs.Refusals.{number};
 ghost use Rattle.decode.specs.Reading.{reading};
-ghost use Rattle.lines.specs.Listing.{halfwordAt, readingText, lineText, pairLine, numbersBelow, isListable, endedLines, listing};
+ghost use Rattle.totals.specs.Totals.{sortOf, totalsText};
+ghost use Rattle.lines.specs.Listing.{halfwordAt, readingText, lineText, pairLine, numbersBelow, pairSorts, isListable, endedLines, listing};
 ghost use Rattle.lines.specs.Own.{most};
 ghost use Rattle.laws.specs.Placed.{Placed};
+use insn::Refusal;
 use readings::Reading;
+use totals::Sort;
+
+// The place after what was put, and the sort of the pair.
+struct Put {
+    next: usize,
+    sort: Sort,
+}
+
+// The refusal of a pair.
+fn put_refusal(out: &mut [u8], at: usize, f: Refusal) -> usize
+    requires { ⌜ at < 2 ^ 54 ⌝ }
+    ensures { λ r. ⌜ Placed 13 (now (out .entry)) at (readingText (refused (number f))) (now (out .exit)) r ⌝ }
+{
+    let p = text::put_word(out, at, b'r', b'e', b'f', b'u');
+    let q = text::put_word(out, p, b's', b'e', b'd', b' ');
+    text::put_five(out, q, insn::refusal_number(f) as u64)
+}
 
 // The record that a pair reads as, or the refusal.
-fn put_reading(out: &mut [u8], at: usize, hw1: u16, hw2: u16, names: &[u8; 4152]) -> usize
+fn put_reading(out: &mut [u8], at: usize, hw1: u16, hw2: u16, names: &[u8; 4152]) -> Put
     requires { ⌜ NameTable (now names) ⌝ }
     requires { ⌜ at < 2 ^ 54 ⌝ }
-    ensures { λ r. ⌜ Placed 78 (now (out .entry)) at (readingText (reading hw1 hw2 0)) (now (out .exit)) r ⌝ }
+    ensures text { λ r. ⌜ Placed 78 (now (out .entry)) at (readingText (reading hw1 hw2 0)) (now (out .exit)) (r .next) ⌝ }
+    ensures sort { λ r. ⌜ r .sort ≡ sortOf hw1 hw2 ⌝ }
 {
     let x = decode::read(hw1, hw2, 0);
+    let sort = totals::family_sort(decode::family_of(hw1, hw2));
     match x {
-        Reading::Read(i) => display::put_insn(out, at, i, names),
-        Reading::Refused(f) => {
-            let p = text::put_word(out, at, b'r', b'e', b'f', b'u');
-            let q = text::put_word(out, p, b's', b'e', b'd', b' ');
-            text::put_five(out, q, insn::refusal_number(f) as u64)
-        }
+        Reading::Read(i) => Put {
+            next: display::put_insn(out, at, i, names),
+            sort: sort,
+        },
+        Reading::Refused(f) => Put {
+            next: put_refusal(out, at, f),
+            sort: Sort::Refused,
+        },
     }
 }
 
 // A pair's line and its end.
-fn put_line(out: &mut [u8], at: usize, i: u64, hw1: u16, hw2: u16, names: &[u8; 4152]) -> usize
+fn put_line(out: &mut [u8], at: usize, i: u64, hw1: u16, hw2: u16, names: &[u8; 4152]) -> Put
     requires { ⌜ NameTable (now names) ⌝ }
     requires { ⌜ at < 2 ^ 53 ⌝ }
     requires { ⌜ i < 16384 ⌝ }
-    ensures { λ r. ⌜ Placed 55 (now (out .entry)) at (lineText i hw1 hw2 ++ 10 ∷ []) (now (out .exit)) r ⌝ }
+    ensures text { λ r. ⌜ Placed 55 (now (out .entry)) at (lineText i hw1 hw2 ++ 10 ∷ []) (now (out .exit)) (r .next) ⌝ }
+    ensures sort { λ r. ⌜ r .sort ≡ sortOf hw1 hw2 ⌝ }
 {
     let p = text::put_five(out, at, i);
     let q = text::put_halfword(out, p, hw1);
     let r = text::put_halfword(out, q, hw2);
     let s = text::put(out, r, b' ');
     let t = put_reading(out, s, hw1, hw2, names);
-    text::put(out, t, 10)
+    let sort = t.sort;
+    Put {
+        next: text::put(out, t.next, 10),
+        sort: sort,
+    }
 }
 
 fn half(low: u8, high: u8) -> u16
@@ -56,18 +86,19 @@ fn halfword_at(input: &[u8], k: usize) -> u16
     half(input[k], input[k + 1])
 }
 
-// A line for each pair.
+// A line for each pair, and the totals.
 fn put_lines(out: &mut [u8], at: usize, input: &[u8], names: &[u8; 4152]) -> usize
     requires { ⌜ NameTable (now names) ⌝ }
     requires { ⌜ at < 2 ^ 52 ⌝ }
     requires { ⌜ length (now input) ≤ 65536 ⌝ }
-    ensures { λ r. ⌜ Placed (55 * (length (now (input .entry)) / 4)) (now (out .entry)) at (endedLines (map (pairLine (now (input .entry))) (numbersBelow (length (now (input .entry)) / 4)))) (now (out .exit)) r ⌝ }
+    ensures { λ r. ⌜ Placed (55 * (length (now (input .entry)) / 4) + 58) (now (out .entry)) at (endedLines (map (pairLine (now (input .entry))) (numbersBelow (length (now (input .entry)) / 4)) ++ totalsText (pairSorts (now (input .entry))) ∷ [])) (now (out .exit)) r ⌝ }
 {
     let pairs = input.len() / 4;
+    let mut counts = [0u16; 5];
     let mut p = at;
     let mut i = 0;
     while i < pairs {
-        p = put_line(
+        let line = put_line(
             out,
             p,
             i as u64,
@@ -75,9 +106,12 @@ fn put_lines(out: &mut [u8], at: usize, input: &[u8], names: &[u8; 4152]) -> usi
             halfword_at(input, 4 * i + 2),
             names,
         );
+        let sort = line.sort;
+        totals::count(&mut counts, sort);
+        p = line.next;
         i += 1;
     }
-    p
+    totals::put_totals(out, p, &counts)
 }
 
 // Whether so many bytes have a listing of pairs.
@@ -92,7 +126,7 @@ pub fn most(n: usize) -> usize
     ensures { λ r. ⌜ r ≡ most n ⌝ }
 {
     if is_listable(n) {
-        12 + 55 * (n / 4)
+        12 + 55 * (n / 4) + 58
     } else {
         11
     }

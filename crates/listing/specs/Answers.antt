@@ -22,6 +22,6 @@ lengthFor text out = choose (leb (length text) (length out)) (accepted (length t
 unfoldable pub outAfter : List ℕ → List ℕ → List ℕ
 outAfter text out = choose (leb (length text) (length out)) (text ++ drop (length text) out) out
 
--- the first line has at most 12 bytes, each of at most 16384 pairs a line of at most 55
+-- the first line has at most 12 bytes, each of at most 16384 pairs a line of at most 55, and the totals have at most 58
 abbrev pub enough : ℕ
-enough = 12 + 55 * 16384
+enough = 12 + 55 * 16384 + 58

@@ -10,7 +10,7 @@ pub enum Listed {
 }
 
 // No listing is longer.
-pub const ENOUGH: usize = 12 + 55 * 16384;
+pub const ENOUGH: usize = 12 + 55 * 16384 + 58;
 
 // Lists the pairs of the input from the start of out, which stays untouched where the listing does not fit.
 pub fn list(input: &[u8], out: &mut [u8]) -> Listed

@@ -1,7 +1,8 @@
-// Lists the replayed pairs, which standard input has as bytes, and inputs at the bounds of what is listed.
-// tools/relist makes standard input and what is due, from the original's answers.
+// Lists the replayed pairs, inputs at the bounds of what is listed, and 16384 pairs of one sort, for each sort.
+// Standard input has the replayed pairs as bytes, and then 64 pairs of each sort. tools/relist makes it and what is
+// due, from the original's answers.
 ghost use mathlib.Core.Path.{_≡_};
-ghost use Prim.Native.Nat.{_≤_};
+ghost use Prim.Native.Nat.{_<_, _≤_};
 ghost use lib.ListN.{length};
 ghost use Rattle.listing.specs.Answers.{enough};
 use libc::STDIN_FILENO;
@@ -31,13 +32,14 @@ fn output_buffer() -> [u8; ENOUGH]
 }
 
 // The pairs over and over.
-fn repeated(pairs: &[u8; 12160]) -> [u8; 65540]
+fn repeated(pairs: &[u8]) -> [u8; 65540]
+    requires { ⌜ 0 < length (now pairs) ⌝ }
     ensures { λ r. ⌜ 65540 ≡ length r ⌝ }
 {
     let mut bytes = input_buffer();
     let mut i: usize = 0;
     while i < 65540 {
-        bytes[i] = pairs[i % 12160];
+        bytes[i] = pairs[i % pairs.len()];
         i += 1;
     }
     bytes
@@ -69,7 +71,21 @@ fn mixed(sum: u64, b: u8) -> u64 {
     (sum % 0x1_0000_0000 * 31 + b as u64) % 0x1_0000_0000
 }
 
-// Bytes, lines and a checksum of a text.
+// Where the last line of a text begins.
+fn last_line(text: &[u8]) -> usize
+    ensures { λ r. ⌜ r ≤ length (now (text .entry)) ⌝ }
+{
+    let mut i = text.len();
+    while 1 < i {
+        if text[i - 2] == 10 {
+            return i - 1;
+        }
+        i -= 1;
+    }
+    0
+}
+
+// Bytes, lines and a checksum of a text, and its last line.
 fn weigh(text: &[u8]) {
     let mut lines: u64 = 0;
     let mut sum: u64 = 0;
@@ -85,7 +101,9 @@ fn weigh(text: &[u8]) {
     put_count(b"bytes ", text.len() as u64);
     put_count(b", lines ", lines);
     put_count(b", sum ", sum);
-    put(b"\n");
+    put(b", last: ");
+    let k = last_line(text);
+    put(&text[k..]);
 }
 
 // What a long listing weighs.
@@ -109,11 +127,11 @@ fn show_buffer(input: &[u8], out: &mut [u8]) {
 
 // Buffers of a listing's length, one less and four more.
 fn show_buffers(three: &[u8]) {
-    let mut exact = [b'.'; 8];
+    let mut exact = [b'.'; 46];
     show_buffer(&three[..0], &mut exact);
-    let mut less = [b'.'; 7];
+    let mut less = [b'.'; 45];
     show_buffer(&three[..0], &mut less);
-    let mut more = [b'.'; 12];
+    let mut more = [b'.'; 50];
     show_buffer(&three[..0], &mut more);
     let mut refused = [b'.'; 11];
     show_buffer(three, &mut refused);
@@ -135,11 +153,26 @@ fn show_bounds(bytes: &[u8], out: &mut [u8])
     show_buffers(&bytes[..3]);
 }
 
+// 16384 pairs of each sort, from 64 of each.
+fn show_sorts(groups: &[u8], out: &mut [u8])
+    requires { ⌜ 1280 ≤ length (now groups) ⌝ }
+{
+    let mut k: usize = 0;
+    while k < 5 {
+        let bytes = repeated(&groups[256 * k..256 * k + 256]);
+        show_weight(&bytes, 65536, out);
+        k += 1;
+    }
+}
+
 fn main() {
     let mut pairs = [0u8; 12160];
     io::read_full(STDIN_FILENO, &mut pairs);
+    let mut groups = [0u8; 1280];
+    io::read_full(STDIN_FILENO, &mut groups);
     let bytes = repeated(&pairs);
     let mut out = output_buffer();
     show(&pairs, 12160, &mut out);
     show_bounds(&bytes, &mut out);
+    show_sorts(&groups, &mut out);
 }

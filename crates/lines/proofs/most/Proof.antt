@@ -13,6 +13,9 @@ within c = omega (arith, listable (c .before .before .args .n) (sym (c .before .
 within-2 : tie.Need-add-result
 within-2 c = omega (arith, listable (c .before .before .args .n) (sym (c .before .is-listable .ensures) ∙ c .if1 .taken))
 
+within-3 : tie.Need-add-result-2
+within-3 c = omega (arith, listable (c .before .before .args .n) (sym (c .before .is-listable .ensures) ∙ c .if1 .taken))
+
 pub most-spec : {M : Type 1} → statement M
 most-spec =
     tie.close
@@ -20,5 +23,6 @@ most-spec =
     (λ c κs. search needs)
     within
     within-2
+    within-3
     (λ c. rw (sym (c .before .is-listable .ensures) ∙ c .if1 .taken))
     (λ c. rw (sym (c .before .is-listable .ensures) ∙ c .if1 .left)))

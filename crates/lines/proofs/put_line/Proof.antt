@@ -14,10 +14,12 @@ use Rattle.lines.proofs.put_line.Tie as tie
 texts : tie.Need-returns
 unfolding lineText
 texts c =
-    let a = c .before .before .before .before .before .before .before .before .before .before .before .before .before .before .before .before .before .before .before .before .before .before .before .before .before in
-    respell {a = 95} refl (omega (arith, length-append (lineText (a .args .i) (a .args .hw1) (a .args .hw2)) (10 ∷ []), line-short (a .args .i) (a .args .hw1) (a .args .hw2) (omega (arith, a .pre .1 .1))))
-    (then (then (then (then (c .before .before .before .before .before .before .before .before .before .before .before .before .before .before .before .before .before .before .before .before .before .before .put-five .ensures) (c .before .before .before .before .before .before .before .before .before .before .before .before .before .before .before .before .before .before .put-halfword .ensures)) (c .before .before .before .before .before .before .before .before .before .before .before .before .before .before .put-halfword2 .ensures))
-    (then (c .before .before .before .before .before .before .before .before .before .before .put .ensures) (c .before .before .before .before .before .before .put-reading .ensures))) (c .before .before .put2 .ensures))
+    let a = c .before .before .before .before .before .before .before .before .before .before .before .before .before .before .before .before .before .before .before .before .before .before .before .before .before in (
+      respell {a = 95} refl (omega (arith, length-append (lineText (a .args .i) (a .args .hw1) (a .args .hw2)) (10 ∷ []), line-short (a .args .i) (a .args .hw1) (a .args .hw2) (omega (arith, a .pre .1 .1))))
+          (then (then (then (then (c .before .before .before .before .before .before .before .before .before .before .before .before .before .before .before .before .before .before .before .before .before .before .put-five .ensures) (c .before .before .before .before .before .before .before .before .before .before .before .before .before .before .before .before .before .before .put-halfword .ensures)) (c .before .before .before .before .before .before .before .before .before .before .before .before .before .before .put-halfword2 .ensures))
+          (then (c .before .before .before .before .before .before .before .before .before .before .put .ensures) (c .before .before .before .before .before .before .put-reading .ensures .0))) (c .before .before .put2 .ensures)),
+      c .before .before .before .before .before .before .put-reading .ensures .1,
+    )
 
 pub put-line-spec : {M : Type 1} → statement M
 put-line-spec =

@@ -4,14 +4,14 @@ use mathlib.Core.Path.{sym, _∙_}
 use native.Mathlib.Omega.{arith}
 use borrow.Author.Needs.{needs}
 use Rattle.names.specs.Names.{codes}
-use Rattle.lines.specs.Listing.{lines, endedLines}
-use Rattle.laws.proofs.Placed.{then, widen}
+use Rattle.laws.proofs.Placed.{then, widen, reword}
 use Rattle.lines.proofs.Listable.{listable}
+use Rattle.lines.proofs.PairLines.{listed, unlisted}
 use Rattle.lines.proofs.put_listing.Statement.{statement}
 use Rattle.lines.proofs.put_listing.Tie as tie
 
 pub put-listing-spec : {M : Type 1} → statement M
-unfolding lines endedLines codes
+unfolding codes
 put-listing-spec =
     tie.close
     (tie.spec
@@ -23,9 +23,12 @@ put-listing-spec =
     (λ c κs. (c .before .before .before .before .before .before .before .before .before .before .before .before .before .before .before .before .before .before .pre, (omega arith, listable _ (sym (c .before .before .before .before .before .before .before .before .before .before .before .before .before .before .before .is-listable .ensures) ∙ c .before .before .before .before .before .before .before .before .before .before .before .before .before .before .if1 .taken))))
     (λ c. search needs)
     (λ c.
-    rw (sym (c .before .before .before .before .before .before .before .before .before .before .before .before .before .before .before .before .before .before .is-listable .ensures) ∙ c .before .before .before .before .before .before .before .before .before .before .before .before .before .before .before .before .before .if1 .taken)
-    (widen (omega arith) (then (then (c .before .before .before .before .before .before .before .before .before .before .before .before .before .before .put-text .ensures) (c .before .before .before .before .before .before .before .before .before .before .put-five .ensures)) (then (c .before .before .before .before .before .before .put .ensures) (c .before .before .put-lines .ensures)))))
+    let e = sym (c .before .before .before .before .before .before .before .before .before .before .before .before .before .before .before .before .before .before .is-listable .ensures) ∙ c .before .before .before .before .before .before .before .before .before .before .before .before .before .before .before .before .before .if1 .taken in
+    reword (listed (c .before .before .before .before .before .before .before .before .before .before .before .before .before .before .before .before .before .before .before .before .before .args .input .now) e)
+    (rw e (widen (omega arith) (then (then (c .before .before .before .before .before .before .before .before .before .before .before .before .before .before .put-text .ensures) (c .before .before .before .before .before .before .before .before .before .before .put-five .ensures)) (then (c .before .before .before .before .before .before .put .ensures) (c .before .before .put-lines .ensures))))))
     (λ c. search needs)
     (λ c κs. search needs)
     (λ c. search needs)
-    (λ c. rw (sym (c .before .before .before .before .before .before .is-listable .ensures) ∙ c .before .before .before .before .before .if1 .left) (c .before .before .put-text2 .ensures)))
+    (λ c.
+    let e = sym (c .before .before .before .before .before .before .is-listable .ensures) ∙ c .before .before .before .before .before .if1 .left in
+    reword (unlisted (c .before .before .before .before .before .before .before .before .before .args .input .now) e) (rw e (c .before .before .put-text2 .ensures))))

@@ -2,6 +2,8 @@
 -- Assumes nothing.
 use mathlib.Core.Path.{_≡_}
 use Prim.Native.Nat.{_-_, _≤_}
+use native.Mathlib.Nat.{mod-lt}
+use native.Mathlib.Omega.{arith}
 use lib.ListN.{length}
 use borrow.Author.Needs.{needs}
 use Rattle.listing_test.proofs.repeated.Statement.{statement}
@@ -22,6 +24,7 @@ repeated-spec =
     (λ c κs. search needs)
     (λ c. search needs)
     (λ c. search needs)
+    (λ c. omega (arith, mod-lt (c .before .before .loop .i) (c .before .before .before .before .before .pre)))
     (λ c. search needs)
     (λ c. search needs)
     (λ c. search needs)

@@ -7,10 +7,10 @@ use Rattle.listing_test.proofs.weigh.Statement.{statement}
 use Rattle.listing_test.proofs.weigh.Tie as tie
 
 abbrev Inv-loop : tie.InvT-loop
-Inv-loop text lines₀ sum₀ i₀ t6 t7 t8 t9 lines sum i = i ≤ length text
+Inv-loop text lines₀ sum₀ i₀ t7 t8 t9 t10 lines sum i = i ≤ length text
 
 abbrev μ-loop : tie.MeasureT-loop
-μ-loop text lines₀ sum₀ i₀ t6 t7 t8 t9 lines sum i = length text - i
+μ-loop text lines₀ sum₀ i₀ t7 t8 t9 t10 lines sum i = length text - i
 
 pub weigh-spec : {M : Type 1} → statement M
 weigh-spec =
@@ -31,6 +31,11 @@ weigh-spec =
     (λ c κs. search needs)
     (λ c. search needs)
     (λ c κs. search needs)
+    (λ c. search needs)
+    (λ c κs. search needs)
+    (λ c κs. search needs)
+    (λ c. search needs)
+    (λ c. search needs)
     (λ c. search needs)
     (λ c κs. search needs)
     (λ c. search needs))

@@ -1,0 +1,4 @@
+pub mod Counts
+pub mod Sorts
+pub mod Short
+pub mod Promises

@@ -1,0 +1,64 @@
+-- The totals under a listing: document 02, F-2.
+-- Assumes nothing.
+use mathlib.Core.Bool.{Bool}
+use mathlib.Core.List.{List, [], _∷_, _++_}
+use Prim.Native.Nat.{ℕ, _+_}
+use Prim.Native.String.{String}
+use lib.Dec.{eqb}
+use Rattle.laws.specs.Answer.{Answer, accepted, refused}
+use Rattle.laws.specs.Choice.{choose}
+use Rattle.insn.specs.declared.Insn.{Insn}
+use Rattle.names.specs.Names.{codes}
+use Rattle.decode.specs.declared.Family.{Family}
+use Rattle.decode.specs.declared.Family.the-variants.{ThreeSame, ThreeDifferent, Shift, ModifiedImmediate, NoFamily}
+use Rattle.decode.specs.Reading.{familyOf, reading}
+use Rattle.text.specs.Text.{decimal}
+use Rattle.totals.specs.declared.Sort.{Sort}
+use Rattle.totals.specs.declared.Sort.the-variants.{Same, Diff, Shifted, Imm, Refused}
+
+-- the sort of an accepted pair of a family; a pair of no family is never accepted
+unfoldable pub familySort : Family → Sort
+familySort ThreeSame = Same
+familySort ThreeDifferent = Diff
+familySort Shift = Shifted
+familySort ModifiedImmediate = Imm
+familySort NoFamily = Refused
+
+-- its family's sort for an accepted pair, else refused
+unfoldable pub readingSort : Family → Answer Insn → Sort
+readingSort f (accepted i) = familySort f
+readingSort f (refused n) = Refused
+
+-- the sort of a pair, from what reading answers
+unfoldable pub sortOf : ℕ → ℕ → Sort
+sortOf hw1 hw2 = readingSort (familyOf hw1 hw2) (reading hw1 hw2 0)
+
+-- a sort's place among the totals
+unfoldable pub place : Sort → ℕ
+place Same = 0
+place Diff = 1
+place Shifted = 2
+place Imm = 3
+place Refused = 4
+
+-- the same sort
+abbrev pub isSort : Sort → Sort → Bool
+isSort s t = eqb (place s) (place t)
+
+-- how many of them are of a sort
+unfoldable pub count : Sort → List Sort → ℕ
+count s [] = 0
+count s (t ∷ ts) = choose (isSort s t) 1 0 + count s ts
+
+-- a word and a number
+abbrev pub figure : String → ℕ → List ℕ
+figure word n = codes word ++ decimal n
+
+-- the totals of lines of these sorts
+unfoldable pub totalsText : List Sort → List ℕ
+totalsText sorts =
+    figure "same " (count Same sorts)
+    ++ figure " diff " (count Diff sorts)
+    ++ figure " shift " (count Shifted sorts)
+    ++ figure " imm " (count Imm sorts)
+    ++ figure " refused " (count Refused sorts)
