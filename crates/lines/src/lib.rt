@@ -15,7 +15,7 @@ use insn::Refusal;
 use readings::Reading;
 use totals::Sort;
 
-// The place after what was put, and the sort of the pair.
+// The place after a pair's text, and the pair's sort.
 struct Put {
     next: usize,
     sort: Sort,
@@ -31,7 +31,7 @@ fn put_refusal(out: &mut [u8], at: usize, f: Refusal) -> usize
     text::put_five(out, q, insn::refusal_number(f) as u64)
 }
 
-// The record that a pair reads as, or the refusal.
+// The record that a pair reads as, or the refusal; and from the same reading its sort.
 fn put_reading(out: &mut [u8], at: usize, hw1: u16, hw2: u16, names: &[u8; 4152]) -> Put
     requires { ⌜ NameTable (now names) ⌝ }
     requires { ⌜ at < 2 ^ 54 ⌝ }
@@ -39,11 +39,11 @@ fn put_reading(out: &mut [u8], at: usize, hw1: u16, hw2: u16, names: &[u8; 4152]
     ensures sort { λ r. ⌜ r .sort ≡ sortOf hw1 hw2 ⌝ }
 {
     let x = decode::read(hw1, hw2, 0);
-    let sort = totals::family_sort(decode::family_of(hw1, hw2));
+    let family = totals::family_sort(decode::family_of(hw1, hw2));
     match x {
         Reading::Read(i) => Put {
             next: display::put_insn(out, at, i, names),
-            sort: sort,
+            sort: family,
         },
         Reading::Refused(f) => Put {
             next: put_refusal(out, at, f),

@@ -24,16 +24,16 @@ familySort Shift = Shifted
 familySort ModifiedImmediate = Imm
 familySort NoFamily = Refused
 
--- its family's sort for an accepted pair, else refused
+-- the sort of a pair of a family, by its reading: the family's if it is accepted, else refused
 unfoldable pub readingSort : Family → Answer Insn → Sort
 readingSort f (accepted i) = familySort f
 readingSort f (refused n) = Refused
 
--- the sort of a pair, from what reading answers
+-- the sort of a pair
 unfoldable pub sortOf : ℕ → ℕ → Sort
 sortOf hw1 hw2 = readingSort (familyOf hw1 hw2) (reading hw1 hw2 0)
 
--- a sort's place among the totals
+-- a sort's place among the totals, by which sorts are told apart
 unfoldable pub place : Sort → ℕ
 place Same = 0
 place Diff = 1
@@ -41,11 +41,11 @@ place Shifted = 2
 place Imm = 3
 place Refused = 4
 
--- the same sort
+-- whether the second is of the first one's sort
 abbrev pub isSort : Sort → Sort → Bool
 isSort s t = eqb (place s) (place t)
 
--- how many of them are of a sort
+-- how many of the sorts in a list are s
 unfoldable pub count : Sort → List Sort → ℕ
 count s [] = 0
 count s (t ∷ ts) = choose (isSort s t) 1 0 + count s ts
