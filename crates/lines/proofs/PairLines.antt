@@ -9,8 +9,11 @@ use native.Mathlib.Omega.{arith}
 use lib.ListN.{length, length-append}
 use Rattle.names.specs.Names.{codes}
 use Rattle.text.specs.Text.{decimal}
+use Rattle.totals.specs.declared.Sort.{Sort}
 use Rattle.totals.specs.Totals.{totalsText}
-use Rattle.lines.specs.Listing.{pairLine, numbersBelow, pairSorts, isListable, lines, endedLines, listing}
+use Rattle.totals.specs.Own.{figureIn, counted}
+use Rattle.totals.proofs.Counts.{figures, counted-last, totals-of}
+use Rattle.lines.specs.Listing.{pairLine, pairSort, numbersBelow, figure, isListable, lines, endedLines, listing}
 
 map-last : {A : Type 0} (f : ℕ → A) (xs : List ℕ) (x : ℕ) → map f (xs ++ x ∷ []) ≡ map f xs ++ f x ∷ []
 map-last f [] x = refl
@@ -36,9 +39,18 @@ ended-last (x ∷ ls) l = ap (λ (t : List ℕ). x ++ 10 ∷ t) (ended-last ls l
 pub one-more : (bytes : List ℕ) (i : ℕ) → endedLines (map (pairLine bytes) (numbersBelow (i + 1))) ≡ endedLines (map (pairLine bytes) (numbersBelow i)) ++ (pairLine bytes i ++ 10 ∷ [])
 one-more bytes i = ap endedLines (next (pairLine bytes) i) ∙ ended-last (map (pairLine bytes) (numbersBelow i)) (pairLine bytes i)
 
+-- the figures below i + 1: those below i with the sort of pair i counted
+pub figures-more : {counts after : List ℕ} {s : Sort} (bytes : List ℕ) (i : ℕ) → counts ≡ figures (map (pairSort bytes) (numbersBelow i)) → s ≡ pairSort bytes i → after ≡ counted counts s
+    → after ≡ figures (map (pairSort bytes) (numbersBelow (i + 1)))
+figures-more bytes i e g h = h ∙ rw (e, g) (counted-last (map (pairSort bytes) (numbersBelow i)) (pairSort bytes i)) ∙ ap figures (sym (next (pairSort bytes) i))
+
+-- the line of all figures
+pub totals-line : {counts : List ℕ} (bytes : List ℕ) → counts ≡ figures (map (pairSort bytes) (numbersBelow (length bytes / 4))) → totalsText (figureIn counts) ++ 10 ∷ [] ≡ totalsText (figure bytes) ++ 10 ∷ []
+totals-line bytes e = ap (λ (l : List ℕ). totalsText (figureIn l) ++ 10 ∷ []) e ∙ ap (λ (l : List ℕ). l ++ 10 ∷ []) (totals-of (map (pairSort bytes) (numbersBelow (length bytes / 4))))
+
 -- the whole listing of a length that is listed: the first line, and then the others
 pub listed : (bytes : List ℕ) → isListable (length bytes) ≡ true
-    → codes "pairs " ++ decimal (length bytes / 4) ++ (10 ∷ endedLines (map (pairLine bytes) (numbersBelow (length bytes / 4)) ++ totalsText (pairSorts bytes) ∷ [])) ≡ listing bytes
+    → codes "pairs " ++ decimal (length bytes / 4) ++ (10 ∷ endedLines (map (pairLine bytes) (numbersBelow (length bytes / 4)) ++ totalsText (figure bytes) ∷ [])) ≡ listing bytes
 unfolding lines endedLines
 listed bytes e = rw e
 

@@ -1,4 +1,4 @@
--- The listing of a list of bytes: document 01, 'Pairs to check', its last paragraphs.
+-- The listing of a list of bytes: document 01, 'Pairs to check', its last paragraphs; the totals: document 02, F-2.
 -- Assumes nothing.
 use mathlib.Core.Bool.{Bool}
 use mathlib.Core.List.{List, [], _∷_, _++_, map}
@@ -13,7 +13,7 @@ use Rattle.decode.specs.Reading.{reading}
 use Rattle.text.specs.Text.{decimal, hex4}
 use Rattle.display.specs.Operands.{insnText}
 use Rattle.totals.specs.declared.Sort.{Sort}
-use Rattle.totals.specs.Totals.{sortOf, totalsText}
+use Rattle.totals.specs.Totals.{sortOf, count, totalsText}
 
 -- the halfword whose lower byte is at place k
 abbrev pub halfwordAt : List ℕ → ℕ → ℕ
@@ -45,15 +45,17 @@ numbersBelow (suc n) = numbersBelow n ++ n ∷ []
 unfoldable pub isListable : ℕ → Bool
 isListable n = both (eqb (n % 4) 0) (leb n 65536)
 
--- the sorts of the pairs' lines
-abbrev pub pairSorts : List ℕ → List Sort
-pairSorts bytes = map (pairSort bytes) (numbersBelow (length bytes / 4))
+-- how many of the pairs are of a sort
+abbrev pub figure : List ℕ → Sort → ℕ
+figure bytes s = count s (map (pairSort bytes) (numbersBelow (length bytes / 4)))
 
 -- the lines: the number of pairs, a line for each pair, and the totals
 unfoldable pub lines : List ℕ → List (List ℕ)
 lines bytes =
     choose (isListable (length bytes))
-    ((codes "pairs " ++ decimal (length bytes / 4)) ∷ map (pairLine bytes) (numbersBelow (length bytes / 4)) ++ totalsText (pairSorts bytes) ∷ [])
+    ((codes "pairs " ++ decimal (length bytes / 4))
+    ∷ map (pairLine bytes) (numbersBelow (length bytes / 4))
+    ++ totalsText (figure bytes) ∷ [])
     (codes "refused 11" ∷ [])
 
 -- every line ends in one byte 10

@@ -8,7 +8,7 @@ ghost use Rattle.laws.specs.Answer.{refused};
 ghost use Rattle.insn.specs.Refusals.{number};
 ghost use Rattle.decode.specs.Reading.{reading};
 ghost use Rattle.totals.specs.Totals.{sortOf, totalsText};
-ghost use Rattle.lines.specs.Listing.{halfwordAt, readingText, lineText, pairLine, numbersBelow, pairSorts, isListable, endedLines, listing};
+ghost use Rattle.lines.specs.Listing.{halfwordAt, readingText, lineText, pairLine, numbersBelow, figure, isListable, endedLines, listing};
 ghost use Rattle.lines.specs.Own.{most};
 ghost use Rattle.laws.specs.Placed.{Placed};
 use insn::Refusal;
@@ -31,7 +31,7 @@ fn put_refusal(out: &mut [u8], at: usize, f: Refusal) -> usize
     text::put_five(out, q, insn::refusal_number(f) as u64)
 }
 
-// The record that a pair reads as, or the refusal; and from the same reading its sort.
+// The record that a pair reads as, or the refusal; and its sort, refused by the same reading, else its family's.
 fn put_reading(out: &mut [u8], at: usize, hw1: u16, hw2: u16, names: &[u8; 4152]) -> Put
     requires { ⌜ NameTable (now names) ⌝ }
     requires { ⌜ at < 2 ^ 54 ⌝ }
@@ -39,11 +39,11 @@ fn put_reading(out: &mut [u8], at: usize, hw1: u16, hw2: u16, names: &[u8; 4152]
     ensures sort { λ r. ⌜ r .sort ≡ sortOf hw1 hw2 ⌝ }
 {
     let x = decode::read(hw1, hw2, 0);
-    let family = totals::family_sort(decode::family_of(hw1, hw2));
+    let if_accepted = totals::family_sort(decode::family_of(hw1, hw2));
     match x {
         Reading::Read(i) => Put {
             next: display::put_insn(out, at, i, names),
-            sort: family,
+            sort: if_accepted,
         },
         Reading::Refused(f) => Put {
             next: put_refusal(out, at, f),
@@ -64,10 +64,10 @@ fn put_line(out: &mut [u8], at: usize, i: u64, hw1: u16, hw2: u16, names: &[u8; 
     let q = text::put_halfword(out, p, hw1);
     let r = text::put_halfword(out, q, hw2);
     let s = text::put(out, r, b' ');
-    let t = put_reading(out, s, hw1, hw2, names);
-    let sort = t.sort;
+    let reading = put_reading(out, s, hw1, hw2, names);
+    let sort = reading.sort;
     Put {
-        next: text::put(out, t.next, 10),
+        next: text::put(out, reading.next, 10),
         sort: sort,
     }
 }
@@ -91,7 +91,7 @@ fn put_lines(out: &mut [u8], at: usize, input: &[u8], names: &[u8; 4152]) -> usi
     requires { ⌜ NameTable (now names) ⌝ }
     requires { ⌜ at < 2 ^ 52 ⌝ }
     requires { ⌜ length (now input) ≤ 65536 ⌝ }
-    ensures { λ r. ⌜ Placed (55 * (length (now (input .entry)) / 4) + 58) (now (out .entry)) at (endedLines (map (pairLine (now (input .entry))) (numbersBelow (length (now (input .entry)) / 4)) ++ totalsText (pairSorts (now (input .entry))) ∷ [])) (now (out .exit)) r ⌝ }
+    ensures { λ r. ⌜ Placed (55 * (length (now (input .entry)) / 4) + 58) (now (out .entry)) at (endedLines (map (pairLine (now (input .entry))) (numbersBelow (length (now (input .entry)) / 4)) ++ totalsText (figure (now (input .entry))) ∷ [])) (now (out .exit)) r ⌝ }
 {
     let pairs = input.len() / 4;
     let mut counts = [0u16; 5];
@@ -107,7 +107,7 @@ fn put_lines(out: &mut [u8], at: usize, input: &[u8], names: &[u8; 4152]) -> usi
             names,
         );
         let sort = line.sort;
-        totals::count(&mut counts, sort);
+        totals::count_one(&mut counts, sort);
         p = line.next;
         i += 1;
     }

@@ -29,8 +29,8 @@ use Rattle.decode.specs.Reading.{familyOf, inFamily, reading}
 use Rattle.listing.specs.declared.Listed.{Listed}
 use Rattle.listing.specs.declared.Listed.the-variants.{Length, TooShort}
 use Rattle.listing.specs.Answers.{listedAnswer, enough}
-use Rattle.totals.specs.Totals.{familySort, readingSort, sortOf, place, count, totalsText}
-use Rattle.lines.specs.Listing.{halfwordAt, readingText, lineText, pairLine, pairSort, numbersBelow, pairSorts, isListable, lines, endedLines}
+use Rattle.totals.specs.Totals.{familySort, readingSort, sortOf, column, count, totalsText}
+use Rattle.lines.specs.Listing.{halfwordAt, readingText, lineText, pairLine, pairSort, numbersBelow, figure, isListable, lines, endedLines}
 use Rattle.listing.specs.Promises.{ListedApart, NeverLonger, TotalsAdd, Sample}
 use Rattle.display.specs.Operands.{overText, operandText, withCommas, insnText}
 use Rattle.text.specs.Text.{digits, decimal, minus, signedDecimal, hex4}
@@ -73,18 +73,19 @@ unfolding lines endedLines codes
 neverLonger bytes = go (isListable (length bytes)) refl
   where
     go : (b : Bool) → isListable (length bytes) ≡ b
-        → length (endedLines (choose b ((codes "pairs " ++ decimal (length bytes / 4)) ∷ map (pairLine bytes) (numbersBelow (length bytes / 4)) ++ totalsText (pairSorts bytes) ∷ []) (codes "refused 11" ∷ []))) ≤ enough
+        → length (endedLines (choose b ((codes "pairs " ++ decimal (length bytes / 4)) ∷ map (pairLine bytes) (numbersBelow (length bytes / 4)) ++ totalsText (figure bytes) ∷ []) (codes "refused 11" ∷ []))) ≤ enough
     go true e =
         let n = length bytes / 4 in
         let h = listable (length bytes) e in
         let pairs = map (pairLine bytes) (numbersBelow n) in
-        let last = totalsText (pairSorts bytes) in
+        let last = totalsText (figure bytes) in
+        let sorts = map (pairSort bytes) (numbersBelow n) in
         omega (
           arith,
           h,
           within 4 n (omega (arith, h)),
           pairs-short bytes n (omega (arith, h)),
-          totals-short (pairSorts bytes) (omega (arith, h, as-many (pairSort bytes) n)),
+          totals-short sorts (omega (arith, h, as-many (pairSort bytes) n)),
           length-append (codes "pairs " ++ decimal n) (10 ∷ endedLines (pairs ++ last ∷ [])),
           length-append (codes "pairs ") (decimal n),
           ap length (ended-last pairs last),
@@ -94,8 +95,8 @@ neverLonger bytes = go (isListable (length bytes)) refl
     go false e = omega arith
 
 pub totalsAdd : TotalsAdd
-totalsAdd bytes = all-counted (pairSorts bytes) ∙ as-many (pairSort bytes) (length bytes / 4)
+totalsAdd bytes = all-counted (map (pairSort bytes) (numbersBelow (length bytes / 4))) ∙ as-many (pairSort bytes) (length bytes / 4)
 
 pub sample : Sample
-unfolding familySort readingSort sortOf place count totalsText pairSort digits decimal minus signedDecimal hex4 overText operandText withCommas insnText readingText lineText pairLine numbersBelow isListable lines endedLines codes findFloat firstFrom eq reading inFamily familyOf same3Of same3Reading shiftOf shiftReading modimmOf modimmReading two three same3 shiftRows shiftCells shiftClasses forbidden columnOf vmovl modimm names nameOf numberOf pairwise vecOf isEscape sizeCode rightEnd leftStart constantAt element operandIn needsNonzero twosComplement floatOf odd
+unfolding familySort readingSort sortOf column count totalsText pairSort digits decimal minus signedDecimal hex4 overText operandText withCommas insnText readingText lineText pairLine numbersBelow isListable lines endedLines codes findFloat firstFrom eq reading inFamily familyOf same3Of same3Reading shiftOf shiftReading modimmOf modimmReading two three same3 shiftRows shiftCells shiftClasses forbidden columnOf vmovl modimm names nameOf numberOf pairwise vecOf isEscape sizeCode rightEnd leftStart constantAt element operandIn needsNonzero twosComplement floatOf odd
 sample = refl

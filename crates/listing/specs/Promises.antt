@@ -8,8 +8,7 @@ use Rattle.names.specs.Names.{codes}
 use Rattle.listing.specs.declared.Listed.{Listed}
 use Rattle.listing.specs.Answers.{listedAnswer, enough}
 use Rattle.totals.specs.declared.Sort.the-variants.{Same, Diff, Shifted, Imm, Refused}
-use Rattle.totals.specs.Totals.{count}
-use Rattle.lines.specs.Listing.{pairSorts, endedLines, listing}
+use Rattle.lines.specs.Listing.{figure, endedLines, listing}
 
 -- an answer says which case it is
 abbrev pub ListedApart : Type 0
@@ -22,9 +21,7 @@ NeverLonger = (bytes : List ℕ) → length (listing bytes) ≤ enough
 -- the five totals add up to the pairs of the header
 abbrev pub TotalsAdd : Type 0
 TotalsAdd =
-    (bytes : List ℕ)
-    → count Same (pairSorts bytes) + count Diff (pairSorts bytes) + count Shifted (pairSorts bytes) + count Imm (pairSorts bytes) + count Refused (pairSorts bytes)
-    ≡ length bytes / 4
+    (bytes : List ℕ) → figure bytes Same + figure bytes Diff + figure bytes Shifted + figure bytes Imm + figure bytes Refused ≡ length bytes / 4
 
 -- document 01's sample, with its totals
 abbrev pub Sample : Type 0

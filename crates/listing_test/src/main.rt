@@ -1,6 +1,6 @@
 // Lists the replayed pairs, inputs at the bounds of what is listed, and 16384 pairs of one sort, for each sort.
-// Standard input has the replayed pairs as bytes, and then 64 pairs of each sort. tools/relist makes it and what is
-// due, from the original's answers.
+// Standard input has the replayed pairs as bytes, and then 64 pairs of each sort. tools/relist makes it, and what is due
+// from the original's answers.
 ghost use mathlib.Core.Path.{_≡_};
 ghost use Prim.Native.Nat.{_<_, _≤_};
 ghost use lib.ListN.{length};
@@ -153,7 +153,7 @@ fn show_bounds(bytes: &[u8], out: &mut [u8])
     show_buffers(&bytes[..3]);
 }
 
-// 16384 pairs of each sort, from 64 of each.
+// 16384 pairs of each sort: 64 of them over and over.
 fn show_sorts(groups: &[u8], out: &mut [u8])
     requires { ⌜ 1280 ≤ length (now groups) ⌝ }
 {

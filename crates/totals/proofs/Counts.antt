@@ -5,12 +5,16 @@ use mathlib.Core.List.{List, [], _∷_, _++_}
 use Prim.Native.Nat.{ℕ, _+_, _≤_}
 use native.Mathlib.Nat.{add-zero}
 use native.Mathlib.Omega.{arith}
-use lib.ListN.{length, getD, set}
+use lib.ListN.{length}
 use Rattle.laws.specs.Choice.{choose}
 use Rattle.totals.specs.declared.Sort.{Sort}
 use Rattle.totals.specs.declared.Sort.the-variants.{Same, Diff, Shifted, Imm, Refused}
-use Rattle.totals.specs.Totals.{place, isSort, count}
-use Rattle.totals.specs.Own.{figures}
+use Rattle.totals.specs.Totals.{column, isSort, count, totalsText}
+use Rattle.totals.specs.Own.{figureIn, counted}
+
+-- the figures of a list of sorts, each in its column
+abbrev pub figures : List Sort → List ℕ
+figures sorts = count Same sorts ∷ count Diff sorts ∷ count Shifted sorts ∷ count Imm sorts ∷ count Refused sorts ∷ []
 
 -- 1 for the same sort, else 0
 abbrev once : Sort → Sort → ℕ
@@ -22,7 +26,7 @@ count-last s [] t = omega arith
 count-last s (r ∷ rs) t = omega (arith, count-last s rs t)
 
 once-in-all : (t : Sort) → once Same t + once Diff t + once Shifted t + once Imm t + once Refused t ≡ 1
-unfolding place
+unfolding column
 once-in-all Same = refl
 once-in-all Diff = refl
 once-in-all Shifted = refl
@@ -35,8 +39,8 @@ all-counted [] = refl
 all-counted (t ∷ ts) = omega (arith, once-in-all t, all-counted ts)
 
 -- no figure is above the number of lines
-pub figure-small : (sorts : List Sort) (s : Sort) → getD (figures sorts) (place s) 0 ≤ length sorts
-unfolding place
+pub figure-small : (sorts : List Sort) (s : Sort) → figureIn (figures sorts) s ≤ length sorts
+unfolding column
 figure-small sorts Same = omega (arith, all-counted sorts)
 figure-small sorts Diff = omega (arith, all-counted sorts)
 figure-small sorts Shifted = omega (arith, all-counted sorts)
@@ -48,11 +52,16 @@ grown : (sorts : List Sort) (t : Sort)
     ≡ (count Same sorts + once Same t) ∷ (count Diff sorts + once Diff t) ∷ (count Shifted sorts + once Shifted t) ∷ (count Imm sorts + once Imm t) ∷ (count Refused sorts + once Refused t) ∷ []
 grown sorts t = rw (count-last Same sorts t, count-last Diff sorts t, count-last Shifted sorts t, count-last Imm sorts t, count-last Refused sorts t)
 
--- one more at its place, the others as they were
-pub one-more : (sorts : List Sort) (s : Sort) → set (figures sorts) (place s) (getD (figures sorts) (place s) 0 + 1) ≡ figures (sorts ++ s ∷ [])
-unfolding place
-one-more sorts Same = simp (grown sorts Same, add-zero)
-one-more sorts Diff = simp (grown sorts Diff, add-zero)
-one-more sorts Shifted = simp (grown sorts Shifted, add-zero)
-one-more sorts Imm = simp (grown sorts Imm, add-zero)
-one-more sorts Refused = simp (grown sorts Refused, add-zero)
+-- one more of its sort, the others as they were
+pub counted-last : (sorts : List Sort) (s : Sort) → counted (figures sorts) s ≡ figures (sorts ++ s ∷ [])
+unfolding column
+counted-last sorts Same = simp (grown sorts Same, add-zero)
+counted-last sorts Diff = simp (grown sorts Diff, add-zero)
+counted-last sorts Shifted = simp (grown sorts Shifted, add-zero)
+counted-last sorts Imm = simp (grown sorts Imm, add-zero)
+counted-last sorts Refused = simp (grown sorts Refused, add-zero)
+
+-- their line
+pub totals-of : (sorts : List Sort) → totalsText (figureIn (figures sorts)) ≡ totalsText (λ (s : Sort). count s sorts)
+unfolding column totalsText
+totals-of sorts = refl

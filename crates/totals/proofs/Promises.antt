@@ -9,17 +9,17 @@ use Rattle.decode.specs.declared.Family.{Family}
 use Rattle.decode.specs.declared.Family.the-variants.{ThreeSame, ThreeDifferent, Shift, ModifiedImmediate, NoFamily}
 use Rattle.decode.specs.Reading.{familyOf, inFamily, reading}
 use Rattle.totals.specs.declared.Sort.the-variants.{Refused}
-use Rattle.totals.specs.Totals.{familySort, readingSort, sortOf, place, isSort}
+use Rattle.totals.specs.Totals.{familySort, readingSort, sortOf, column, isSort}
 use Rattle.totals.specs.Promises.{isRefused, RefusedCounted}
 
 -- in a family with a sort of its own
 counted : (f : Family) → isSort Refused (familySort f) ≡ false → (x : Answer Insn) → isSort Refused (readingSort f x) ≡ isRefused x
-unfolding readingSort place
+unfolding readingSort column
 counted f e (accepted i) = e
 counted f e (refused n) = refl
 
 in-family : (f : Family) (hw1 hw2 : ℕ) → isSort Refused (readingSort f (inFamily f hw1 hw2 0)) ≡ isRefused (inFamily f hw1 hw2 0)
-unfolding familySort readingSort place inFamily
+unfolding familySort readingSort column inFamily
 in-family ThreeSame hw1 hw2 = counted ThreeSame refl (inFamily ThreeSame hw1 hw2 0)
 in-family ThreeDifferent hw1 hw2 = counted ThreeDifferent refl (inFamily ThreeDifferent hw1 hw2 0)
 in-family Shift hw1 hw2 = counted Shift refl (inFamily Shift hw1 hw2 0)

@@ -10,13 +10,13 @@ use Rattle.text.specs.Text.{decimal}
 use Rattle.text.proofs.Decimal.{within}
 use Rattle.totals.specs.declared.Sort.{Sort}
 use Rattle.totals.specs.declared.Sort.the-variants.{Same, Diff, Shifted, Imm, Refused}
-use Rattle.totals.specs.Totals.{count, figure, totalsText}
+use Rattle.totals.specs.Totals.{count, worded, totalsText}
 use Rattle.totals.proofs.Counts.{all-counted}
 
-figure-short : (word : String) (n : ℕ) → n < 10 ^ 5 → length (figure word n) ≤ length (codes word) + 5
-figure-short word n h = omega (arith, length-append (codes word) (decimal n), within 4 n h)
+worded-short : (word : String) (n : ℕ) → n < 10 ^ 5 → length (worded word n) ≤ length (codes word) + 5
+worded-short word n h = omega (arith, length-append (codes word) (decimal n), within 4 n h)
 
-pub totals-short : (sorts : List Sort) → length sorts < 10 ^ 5 → length (totalsText sorts) ≤ 57
+pub totals-short : (sorts : List Sort) → length sorts < 10 ^ 5 → length (totalsText (λ (s : Sort). count s sorts)) ≤ 57
 unfolding totalsText codes
 totals-short sorts h =
     let a = count Same sorts in
@@ -27,13 +27,13 @@ totals-short sorts h =
     let k = all-counted sorts in
     omega (
       arith,
-      figure-short "same " a (omega (arith, k)),
-      figure-short " diff " b (omega (arith, k)),
-      figure-short " shift " c (omega (arith, k)),
-      figure-short " imm " d (omega (arith, k)),
-      figure-short " refused " e (omega (arith, k)),
-      length-append (figure "same " a ++ figure " diff " b ++ figure " shift " c ++ figure " imm " d) (figure " refused " e),
-      length-append (figure "same " a ++ figure " diff " b ++ figure " shift " c) (figure " imm " d),
-      length-append (figure "same " a ++ figure " diff " b) (figure " shift " c),
-      length-append (figure "same " a) (figure " diff " b),
+      worded-short "same " a (omega (arith, k)),
+      worded-short " diff " b (omega (arith, k)),
+      worded-short " shift " c (omega (arith, k)),
+      worded-short " imm " d (omega (arith, k)),
+      worded-short " refused " e (omega (arith, k)),
+      length-append (worded "same " a ++ worded " diff " b ++ worded " shift " c ++ worded " imm " d) (worded " refused " e),
+      length-append (worded "same " a ++ worded " diff " b ++ worded " shift " c) (worded " imm " d),
+      length-append (worded "same " a ++ worded " diff " b) (worded " shift " c),
+      length-append (worded "same " a) (worded " diff " b),
     )

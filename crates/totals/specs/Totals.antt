@@ -33,17 +33,17 @@ readingSort f (refused n) = Refused
 unfoldable pub sortOf : ℕ → ℕ → Sort
 sortOf hw1 hw2 = readingSort (familyOf hw1 hw2) (reading hw1 hw2 0)
 
--- a sort's place among the totals, by which sorts are told apart
-unfoldable pub place : Sort → ℕ
-place Same = 0
-place Diff = 1
-place Shifted = 2
-place Imm = 3
-place Refused = 4
+-- a sort's column in the line of totals, by which sorts are told apart
+unfoldable pub column : Sort → ℕ
+column Same = 0
+column Diff = 1
+column Shifted = 2
+column Imm = 3
+column Refused = 4
 
--- whether the second is of the first one's sort
+-- the same sort
 abbrev pub isSort : Sort → Sort → Bool
-isSort s t = eqb (place s) (place t)
+isSort s t = eqb (column s) (column t)
 
 -- how many of the sorts in a list are s
 unfoldable pub count : Sort → List Sort → ℕ
@@ -51,14 +51,14 @@ count s [] = 0
 count s (t ∷ ts) = choose (isSort s t) 1 0 + count s ts
 
 -- a word and a number
-abbrev pub figure : String → ℕ → List ℕ
-figure word n = codes word ++ decimal n
+abbrev pub worded : String → ℕ → List ℕ
+worded word n = codes word ++ decimal n
 
--- the totals of lines of these sorts
-unfoldable pub totalsText : List Sort → List ℕ
-totalsText sorts =
-    figure "same " (count Same sorts)
-    ++ figure " diff " (count Diff sorts)
-    ++ figure " shift " (count Shifted sorts)
-    ++ figure " imm " (count Imm sorts)
-    ++ figure " refused " (count Refused sorts)
+-- the line of totals, from the figure of each sort
+unfoldable pub totalsText : (Sort → ℕ) → List ℕ
+totalsText figure =
+    worded "same " (figure Same)
+    ++ worded " diff " (figure Diff)
+    ++ worded " shift " (figure Shifted)
+    ++ worded " imm " (figure Imm)
+    ++ worded " refused " (figure Refused)

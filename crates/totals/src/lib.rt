@@ -1,12 +1,12 @@
 // The totals under a listing: how many pairs there are of each sort.
 ghost use mathlib.Core.Path.{_≡_};
-ghost use mathlib.Core.List.{List, _∷_, [], _++_};
+ghost use mathlib.Core.List.{_∷_, [], _++_};
 ghost use Prim.Native.Nat.{_+_, _<_, _^_};
-ghost use lib.ListN.{length, getD};
+ghost use lib.ListN.{length};
 ghost use Rattle.laws.specs.Placed.{Placed};
 ghost use Rattle.text.specs.Text.{decimal};
-ghost use Rattle.totals.specs.Totals.{familySort, place, totalsText};
-ghost use Rattle.totals.specs.Own.{figures};
+ghost use Rattle.totals.specs.Totals.{familySort, column, totalsText};
+ghost use Rattle.totals.specs.Own.{figureIn, counted};
 use decode::Family;
 
 // The sort of a pair: its family if it is accepted, else refused.
@@ -31,9 +31,9 @@ pub fn family_sort(f: Family) -> Sort
     }
 }
 
-// A sort's place among the totals.
-fn place(s: Sort) -> usize
-    ensures { λ r. ⌜ (r ≡ place s) × (r < 5) ⌝ }
+// A sort's column in the line of totals.
+fn column(s: Sort) -> usize
+    ensures { λ r. ⌜ (r ≡ column s) × (r < 5) ⌝ }
 {
     match s {
         Sort::Same => 0,
@@ -45,11 +45,11 @@ fn place(s: Sort) -> usize
 }
 
 // One more of a sort.
-pub fn count(counts: &mut [u16; 5], s: Sort)
-    requires { ⌜ getD (now counts) (place s) 0 < 65535 ⌝ }
-    ensures { λ r. ⌜ ((sorts : List Sort) → now (counts .entry) ≡ figures sorts → now (counts .exit) ≡ figures (sorts ++ s ∷ [])) ⌝ }
+pub fn count_one(counts: &mut [u16; 5], s: Sort)
+    requires { ⌜ figureIn (now counts) s < 65535 ⌝ }
+    ensures { λ r. ⌜ now (counts .exit) ≡ counted (now (counts .entry)) s ⌝ }
 {
-    let k = place(s);
+    let k = column(s);
     counts[k] += 1;
 }
 
@@ -66,7 +66,7 @@ fn put_figure(out: &mut [u8], at: usize, word: &[u8], n: u16) -> usize
 // The line of totals and its end.
 pub fn put_totals(out: &mut [u8], at: usize, counts: &[u16; 5]) -> usize
     requires { ⌜ at < 2 ^ 59 ⌝ }
-    ensures { λ r. ⌜ ((sorts : List Sort) → now (counts .entry) ≡ figures sorts → Placed 58 (now (out .entry)) at (totalsText sorts ++ 10 ∷ []) (now (out .exit)) r) ⌝ }
+    ensures { λ r. ⌜ Placed 58 (now (out .entry)) at (totalsText (figureIn (now (counts .entry))) ++ 10 ∷ []) (now (out .exit)) r ⌝ }
 {
     let p = put_figure(out, at, b"same ", counts[0]);
     let q = put_figure(out, p, b" diff ", counts[1]);

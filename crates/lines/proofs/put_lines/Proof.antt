@@ -6,12 +6,11 @@ use Prim.Native.Nat.{_-_, _*_, _/_, _≤_}
 use native.Mathlib.Omega.{arith}
 use lib.ListN.{length}
 use borrow.Author.Needs.{needs}
-use Rattle.lines.specs.Listing.{pairLine, pairSort, numbersBelow, pairSorts, endedLines}
+use Rattle.lines.specs.Listing.{pairLine, pairSort, numbersBelow, figure, endedLines}
 use Rattle.laws.specs.Placed.{Placed}
 use Rattle.totals.specs.Totals.{count, totalsText}
-use Rattle.totals.specs.Own.{figures}
-use Rattle.totals.proofs.Counts.{figure-small}
-use Rattle.lines.proofs.PairLines.{next, as-many, ended-last, one-more}
+use Rattle.totals.proofs.Counts.{figures, figure-small}
+use Rattle.lines.proofs.PairLines.{as-many, ended-last, one-more, figures-more, totals-line}
 use Rattle.laws.proofs.Placed.{then, nothing, widen, reword}
 use Rattle.lines.proofs.put_lines.Statement.{statement}
 use Rattle.lines.proofs.put_lines.Tie as tie
@@ -27,7 +26,7 @@ start : tie.Need-loop-holds Inv-loop μ-loop
 unfolding numbersBelow endedLines count
 start c = (omega arith, refl, nothing _ _, refl)
 
-few : tie.Need-count-requires Inv-loop μ-loop
+few : tie.Need-count-one-requires Inv-loop μ-loop
 few c κs =
     let l = c .before .before .before .before .before .before .before .before .loop in
     let sorts = map (pairSort (c .before .before .before .before .before .before .before .before .before .before .before .args .input .now)) (numbersBelow (l .i)) in
@@ -42,7 +41,7 @@ again c =
       omega arith,
       search needs,
       widen (omega arith) (reword (sym (one-more (a .input .now) (l .i))) (then (l .inv .2) (h .0))),
-      rw (next (pairSort (a .input .now)) (l .i)) (rw (h .1) at (c .count .ensures (map (pairSort (a .input .now)) (numbersBelow (l .i))) (l .inv .3))),
+      figures-more (a .input .now) (l .i) (l .inv .3) (h .1) (c .count-one .ensures),
     )
 
 end : tie.Need-returns Inv-loop μ-loop
@@ -50,7 +49,7 @@ end c =
     let l = c .before .before .before .before .before .before .loop in
     let input = c .before .before .before .before .before .before .before .before .before .args .input .now in
     let e : l .i ≡ length input / 4 = omega arith in
-    reword (sym (ended-last (map (pairLine input) (numbersBelow (length input / 4))) (totalsText (pairSorts input)))) (then (rw e at (l .inv .2)) (c .before .before .put-totals .ensures (pairSorts input) (rw e at (l .inv .3))))
+    reword (sym (ended-last (map (pairLine input) (numbersBelow (length input / 4))) (totalsText (figure input)))) (then (rw e at (l .inv .2)) (reword (totals-line input (rw e at (l .inv .3))) (c .before .before .put-totals .ensures)))
 
 pub put-lines-spec : {M : Type 1} → statement M
 put-lines-spec =
