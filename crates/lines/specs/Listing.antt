@@ -45,7 +45,7 @@ numbersBelow (suc n) = numbersBelow n ++ n ∷ []
 unfoldable pub isListable : ℕ → Bool
 isListable n = both (eqb (n % 4) 0) (leb n 65536)
 
--- how many of the pairs are of a sort
+-- how many of the pairs' lines are of a sort
 abbrev pub figure : List ℕ → Sort → ℕ
 figure bytes s = count s (map (pairSort bytes) (numbersBelow (length bytes / 4)))
 

@@ -9,6 +9,7 @@ use Rattle.decode.specs.Reading.{reading}
 use Rattle.totals.specs.declared.Sort.the-variants.{Refused}
 use Rattle.totals.specs.Totals.{sortOf, isSort}
 
+-- whether a reading is a refusal
 abbrev pub isRefused : Answer Insn → Bool
 isRefused (accepted i) = false
 isRefused (refused n) = true
