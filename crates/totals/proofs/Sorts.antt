@@ -1,4 +1,4 @@
--- The sort of a pair that was read by its family.
+-- The sort of a pair, from its family and its reading.
 -- Assumes nothing.
 use mathlib.Core.Path.{_≡_}
 use Prim.Native.Nat.{ℕ}
