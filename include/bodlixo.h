@@ -9,11 +9,11 @@
 
     reading      1  no family of instructions has the pair
                  2  a bit that its row fixes is wrong: L of a narrowing, lengthening or conversion, or a conversion's imm6
-                 3  its cell of the table is blank
+                 3  its cell of the table is blank, or so in the edition
                  4  a zero immediate where the row has none
                  5  a pairwise (vp..) name with quadwords; in writing too
                  6  an odd number for a quadword register
-    writing      7  no mnemonic has the number
+    writing      7  no mnemonic has the number, or none of the edition
                  8  count, kinds, registers or their lengths are not the mnemonic's
                  9  a number or float that no pair carries
     running     10  the pair has no meaning for the machine; a pair that cannot be read stops a run with its own number
@@ -26,14 +26,20 @@
    A record is ten words: mnemonic, mark (1 or 2), address, count, then kind and value of each of three places.
    Kind: 0 absent, 1 D, 2 Q, 3 S, 4 whole number, 5 float, 6 another kind.
    Value: the register's number, the whole number's 64 bits in two's complement, the float's IEEE 754 bits, else 0.
-   The words of a record that was read stand for that record: written, they are the pair that was read. */
+   The words of a record that was read stand for that record: written in the same edition, they are the pair that was
+   read. */
+
+/* The edition of the manual that a reading or a writing goes by. DDI 0406B has no VFMA and VFMS: under B a pair of
+   theirs is refused with 3 and a record with their names with 7; all else is as under C. Any number but
+   BODLIXO_EDITION_B stands for C. Runs, sheets and listings go by C. */
+enum { BODLIXO_EDITION_C = 0, BODLIXO_EDITION_B = 1 };
 
 /* Reads a pair at an address. On a refusal the record is untouched. */
-uint32_t bodlixo_read(uint16_t hw1, uint16_t hw2, uint32_t address, uint64_t record[10]);
+uint32_t bodlixo_read(uint32_t edition, uint16_t hw1, uint16_t hw2, uint32_t address, uint64_t record[10]);
 
 /* Writes a record as a pair, whatever its address and mark. On a refusal the pair is untouched. A word too large for
    its field stands for a value that no pair has; the bits of a not-a-number stand for a not-a-number. */
-uint32_t bodlixo_write(const uint64_t record[10], uint16_t pair[2]);
+uint32_t bodlixo_write(uint32_t edition, const uint64_t record[10], uint16_t pair[2]);
 
 /* Runs the pairs of `len` halfwords, from the pair `start` on, at most `budget` of them, on a file of 32 doublewords.
    `*executed` is always set: the pairs executed, whose effect the file has. After 15 a call from start + *executed

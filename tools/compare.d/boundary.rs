@@ -5,8 +5,8 @@ use oracle::Record;
 
 #[link(name = "capi", kind = "static")]
 extern "C" {
-    fn bodlixo_read(hw1: u16, hw2: u16, address: u32, record: *mut u64) -> u32;
-    fn bodlixo_write(record: *const u64, pair: *mut u16) -> u32;
+    fn bodlixo_read(edition: u32, hw1: u16, hw2: u16, address: u32, record: *mut u64) -> u32;
+    fn bodlixo_write(edition: u32, record: *const u64, pair: *mut u16) -> u32;
     fn bodlixo_list(
         input: *const u8,
         len: usize,
@@ -16,12 +16,16 @@ extern "C" {
     ) -> u32;
 }
 
-pub fn read(hw1: u16, hw2: u16, address: u32, record: &mut Record) -> u32 {
-    unsafe { bodlixo_read(hw1, hw2, address, record.as_mut_ptr()) }
+/// The number that names edition B, and some of those that name C.
+pub const B: u32 = 1;
+pub const C: [u32; 6] = [0, 2, 3, 0x101, 0x1_0001, u32::MAX];
+
+pub fn read(edition: u32, hw1: u16, hw2: u16, address: u32, record: &mut Record) -> u32 {
+    unsafe { bodlixo_read(edition, hw1, hw2, address, record.as_mut_ptr()) }
 }
 
-pub fn write(record: &Record, pair: &mut [u16; 2]) -> u32 {
-    unsafe { bodlixo_write(record.as_ptr(), pair.as_mut_ptr()) }
+pub fn write(edition: u32, record: &Record, pair: &mut [u16; 2]) -> u32 {
+    unsafe { bodlixo_write(edition, record.as_ptr(), pair.as_mut_ptr()) }
 }
 
 /// The refusal's number, or 0 and the listing's length.

@@ -1,11 +1,14 @@
 //! The replay lists: a fixed sample of the original's answers as lines of text. tools/replay says
 //! how a line is laid out.
 
-use oracle::damage::{around_amounts, has_amount, with_exchanged, with_place, Good, SORTS};
+use oracle::damage::{
+    around_amounts, has_amount, with_count, with_exchanged, with_place, Good, SORTS,
+};
 use oracle::record::{self, place, Record, WHOLE};
 use oracle::samples::{address, mixed};
+use oracle::values::FEW;
 use oracle::writing::Forms;
-use oracle::{chosen, decode, encode, reading, Names};
+use oracle::{chosen, decode, encode, reading, Edition, Names};
 use std::collections::BTreeSet;
 use std::io::{BufWriter, Write};
 
@@ -16,17 +19,32 @@ type Pair = (u16, u16);
 
 fn main() {
     let names = Names::of_original();
-    let lines: Vec<_> = match std::env::args().nth(1).as_deref() {
-        Some("read") => chosen::pairs().into_iter().map(|pair| read_line(pair, &names)).collect(),
-        Some("write") => {
-            let forms = Forms::new(&names);
-            let records = chosen_records(&names, &forms);
-            records.iter().map(|record| written_line(record, &names, &forms)).collect()
+    let forms = Forms::new(&names);
+    let words: Vec<_> = std::env::args().skip(1).collect();
+    let lines: Vec<_> = match words.iter().map(String::as_str).collect::<Vec<_>>()[..] {
+        ["read"] => read_lines(Edition::C, &chosen::pairs(), &names),
+        ["write"] => written_lines(Edition::C, &chosen_records(&names, &forms), &names, &forms),
+        ["read", "B"] => read_lines(Edition::B, &pairs_under_b(), &names),
+        ["write", "B"] => {
+            written_lines(Edition::B, &records_under_b(&names, &forms), &names, &forms)
         }
-        _ => panic!("which list: read or write"),
+        _ => panic!("which list: read or write, and B for edition B"),
     };
     let mut out = BufWriter::new(std::io::stdout().lock());
     lines.iter().for_each(|line| writeln!(out, "{line}").expect("written"));
+}
+
+fn read_lines(edition: Edition, pairs: &BTreeSet<Pair>, names: &Names) -> Vec<String> {
+    pairs.iter().map(|&pair| read_line(edition, pair, names)).collect()
+}
+
+fn written_lines(
+    edition: Edition,
+    records: &BTreeSet<Record>,
+    names: &Names,
+    forms: &Forms,
+) -> Vec<String> {
+    records.iter().map(|record| written_line(edition, record, names, forms)).collect()
 }
 
 /// One line of either list.
@@ -38,18 +56,50 @@ fn line((hw1, hw2): Pair, answer: u32, record: &Record) -> String {
     )
 }
 
-fn read_line((hw1, hw2): Pair, names: &Names) -> String {
+fn read_line(edition: Edition, (hw1, hw2): Pair, names: &Names) -> String {
     let address = address(hw1, hw2);
     let mut nothing = [0; 10];
     nothing[2] = address.into();
+    if edition.withholds_pair(hw1, hw2) {
+        return line((hw1, hw2), 3, &nothing);
+    }
     let insn = decode(hw1, hw2, address);
     let record = insn.map_or(nothing, |insn| record::of_insn(&insn, names));
     line((hw1, hw2), reading::refusal(hw1, hw2), &record)
 }
 
-fn written_line(record: &Record, names: &Names, forms: &Forms) -> String {
+fn written_line(edition: Edition, record: &Record, names: &Names, forms: &Forms) -> String {
+    if edition.withholds_record(record, names) {
+        return line((0, 0), 7, record);
+    }
     let pair = record::to_insn(record, names).and_then(|insn| encode(&insn));
     line(pair.unwrap_or((0, 0)), forms.refusal(record), record)
+}
+
+/// The pairs of vfma and vfms, those one bit away from them, and every sixteenth of the others.
+fn pairs_under_b() -> BTreeSet<Pair> {
+    let others = chosen::pairs().into_iter().step_by(16);
+    chosen::fused().into_iter().chain(others).collect()
+}
+
+/// The records of these pairs under C; those of vfma and vfms also with other counts and other values
+/// in their places; and every sixteenth of the records under C.
+fn records_under_b(names: &Names, forms: &Forms) -> BTreeSet<Record> {
+    let mut records: BTreeSet<_> =
+        chosen_records(names, forms).into_iter().step_by(16).collect();
+    for (hw1, hw2) in pairs_under_b() {
+        let insn = decode(hw1, hw2, address(hw1, hw2));
+        records.extend(insn.map(|insn| record::of_insn(&insn, names)));
+    }
+    let fused = |record: &Record| Edition::B.withholds_record(record, names);
+    for record in records.clone().into_iter().filter(fused).step_by(16) {
+        records.extend([0, 1, 2, 4].map(|count| with_count(&record, count)));
+        for place in 0..3 {
+            records.extend(FEW.map(|value| with_place(&record, place, value)));
+        }
+    }
+    records.retain(fits);
+    records
 }
 
 /// The records of the pairs that are read, vorr with equal sources, amounts at both ends and one

@@ -1,11 +1,12 @@
-//! Writing: every record that reading gives, and damaged ones, held against the original.
+//! Writing: every record that reading gives, and damaged ones, held against the original; and under
+//! edition B, where the names of vfma and vfms alone differ.
 
 mod boundary;
 
 use oracle::damage::{with_junk, Good, SORTS};
 use oracle::samples::{address, pairs};
 use oracle::writing::Forms;
-use oracle::{decode, encode, record, Names, Record, Report};
+use oracle::{decode, encode, record, Edition, Names, Record, Report};
 use std::process::ExitCode;
 
 /// What a pair is filled with before the call, to see that a refusal leaves it alone.
@@ -19,9 +20,9 @@ enum Writing {
     RefusedAndTouched(u32, [u16; 2]),
 }
 
-fn ours(record: &Record) -> Writing {
+fn ours(edition: u32, record: &Record) -> Writing {
     let mut pair = FILL;
-    match boundary::write(record, &mut pair) {
+    match boundary::write(edition, record, &mut pair) {
         0 => Writing::Written(pair[0], pair[1]),
         number if pair == FILL => Writing::Refused(number),
         number => Writing::RefusedAndTouched(number, pair),
@@ -67,13 +68,18 @@ struct Check<'a> {
     forms: Forms,
     report: Report,
     counts: Counts,
+    /// Records of vfma and vfms, by our answer under C.
+    withheld: [u64; 10],
+    tried: usize,
 }
 
 impl Check<'_> {
     /// One record. Acceptance and the pair are the original's; the number is the one worked out
     /// from document 01, which has to refuse just what the original refuses. What is due.
     fn record(&mut self, record: &Record) -> Writing {
-        let got = ours(record);
+        let c = boundary::C[self.tried % boundary::C.len()];
+        self.tried += 1;
+        let got = ours(c, record);
         let refusal = self.forms.refusal(record);
         let insn = record::to_insn(record, self.names);
         let written = insn.and_then(|insn| encode(&insn));
@@ -81,6 +87,7 @@ impl Check<'_> {
         let due =
             written.map_or(Writing::Refused(refusal), |(hw1, hw2)| Writing::Written(hw1, hw2));
         self.report.expect(got, due, || format!("record {record:x?}"));
+        self.under_b(record, got, due);
         let counts = match insn {
             Some(_) => &mut self.counts.compared,
             None => &mut self.counts.beyond,
@@ -90,13 +97,24 @@ impl Check<'_> {
         }
         due
     }
+
+    /// The same record under B: 7 where it has a name of vfma or vfms, else as under C.
+    fn under_b(&mut self, record: &Record, under_c: Writing, due: Writing) {
+        let withheld = Edition::B.withholds_record(record, self.names);
+        let due = if withheld { Writing::Refused(7) } else { due };
+        self.report.expect(ours(boundary::B, record), due, || format!("record {record:x?} under B"));
+        if withheld {
+            self.withheld[number(under_c) as usize % 10] += 1;
+        }
+    }
 }
 
 fn main() -> ExitCode {
     let names = Names::of_original();
     let forms = Forms::new(&names);
     let counts = Counts::default();
-    let mut check = Check { names: &names, forms, report: Report::default(), counts };
+    let report = Report::default();
+    let mut check = Check { names: &names, forms, report, counts, withheld: [0; 10], tried: 0 };
     let mut total = Counts::default();
     let good = written_back(&mut check);
     check.counts.tell("what reading gives");
@@ -108,6 +126,12 @@ fn main() -> ExitCode {
         check.counts.tell(what);
         total.add(&std::mem::take(&mut check.counts));
     }
+    println!(
+        "  under B {} records of vfma and vfms refused with 7: {} written and {} refused with 8 under C",
+        check.withheld.iter().sum::<u64>(),
+        check.withheld[0],
+        check.withheld[8]
+    );
     println!(
         "write: {} records compared, {} written; {} more beyond the original; {} disagreements",
         total.compared.iter().sum::<u64>(),

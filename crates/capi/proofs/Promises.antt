@@ -3,7 +3,9 @@
 use mathlib.Core.Path.{_∙_, ap}
 use Rattle.insn.specs.declared.Insn.{Insn}
 use Rattle.laws.specs.Answer.{Answer}
-use Rattle.encode.specs.Writing.{writing}
+use Rattle.laws.proofs.Tests.{passed}
+use Rattle.decode.specs.Editions.{isWithheld}
+use Rattle.encode.specs.Writing.{writingIn}
 use Rattle.trips.proofs.Promises.{readThenWritten}
 use Rattle.words.specs.Records.{recordOf}
 use Rattle.words.proofs.Promises.{wordsBack, readingsFit}
@@ -11,7 +13,8 @@ use Rattle.capi.specs.Results.{recordAfter}
 use Rattle.capi.specs.Promises.{WordsWrittenBack}
 
 pub wordsWrittenBack : WordsWrittenBack
-wordsWrittenBack hw1 hw2 address i before h1 h2 ha e =
-    ap (λ (a : Answer Insn). writing (recordOf (recordAfter a before))) e
-    ∙ ap writing (wordsBack i (readingsFit hw1 hw2 address i ha e))
-    ∙ readThenWritten hw1 hw2 address i (i .mark) (i .address) h1 h2 e
+wordsWrittenBack edition hw1 hw2 address i before h1 h2 ha e =
+    let read = passed (isWithheld edition hw1 hw2) 3 _ i e .1 in
+    ap (λ (a : Answer Insn). writingIn edition (recordOf (recordAfter a before))) e
+    ∙ ap (writingIn edition) (wordsBack i (readingsFit hw1 hw2 address i ha read))
+    ∙ readThenWritten edition hw1 hw2 address i (i .mark) (i .address) h1 h2 e

@@ -1,13 +1,14 @@
 // The C boundary; include/bodlixo.h has the declarations.
 ghost use mathlib.Core.Path.{_≡_};
 ghost use Prim.Native.Nat.{ℕ};
-ghost use Rattle.decode.specs.Reading.{reading};
 ghost use lib.ListN.{length};
+ghost use Rattle.editions.specs.Editions.{editionOf};
+ghost use Rattle.decode.specs.Editions.{readingIn};
 ghost use Rattle.runs.specs.Run.{Run, runOf};
 ghost use Rattle.sheet.specs.Demand3.{Demand3};
 ghost use Rattle.sheet.specs.Evaluation.{evaluationOf, fileLeft};
 ghost use Rattle.translator.specs.Translation.{translationOf, writtenOf};
-ghost use Rattle.encode.specs.Writing.{writing};
+ghost use Rattle.encode.specs.Writing.{writingIn};
 ghost use Rattle.listing.specs.Answers.{lengthFor, outAfter};
 ghost use Rattle.lines.specs.Listing.{listing};
 ghost use Rattle.words.specs.Records.{recordOf};
@@ -18,13 +19,19 @@ use readings::Reading;
 use translator::Translation;
 use writings::Writing;
 
-// Reads a pair: 0 and its record, or the refusal's number with the record untouched.
+// Reads a pair in an edition: 0 and its record, or the refusal's number with the record untouched.
 #[no_mangle]
-pub extern "C" fn bodlixo_read(hw1: u16, hw2: u16, address: u32, out: &mut [u64; 10]) -> u32
-    ensures code { λ r. ⌜ r ≡ returnCode (reading hw1 hw2 address) ⌝ }
-    ensures record { λ r. ⌜ now (out .exit) ≡ recordAfter (reading hw1 hw2 address) (now (out .entry)) ⌝ }
+pub extern "C" fn bodlixo_read(
+    edition: u32,
+    hw1: u16,
+    hw2: u16,
+    address: u32,
+    out: &mut [u64; 10],
+) -> u32
+    ensures code { λ r. ⌜ r ≡ returnCode (readingIn (editionOf edition) hw1 hw2 address) ⌝ }
+    ensures record { λ r. ⌜ now (out .exit) ≡ recordAfter (readingIn (editionOf edition) hw1 hw2 address) (now (out .entry)) ⌝ }
 {
-    let answer = decode::read(hw1, hw2, address);
+    let answer = decode::read(editions::edition_of(edition), hw1, hw2, address);
     match answer {
         Reading::Refused(f) => insn::refusal_number(f) as u32,
         Reading::Read(i) => {
@@ -34,13 +41,13 @@ pub extern "C" fn bodlixo_read(hw1: u16, hw2: u16, address: u32, out: &mut [u64;
     }
 }
 
-// Writes a record: 0 and its pair, or the refusal's number with the pair untouched.
+// Writes a record in an edition: 0 and its pair, or the refusal's number with the pair untouched.
 #[no_mangle]
-pub extern "C" fn bodlixo_write(words: &[u64; 10], pair: &mut [u16; 2]) -> u32
-    ensures code { λ r. ⌜ r ≡ returnCode (writing (recordOf (now (words .entry)))) ⌝ }
-    ensures pair { λ r. ⌜ now (pair .exit) ≡ pairAfter (writing (recordOf (now (words .entry)))) (now (pair .entry)) ⌝ }
+pub extern "C" fn bodlixo_write(edition: u32, words: &[u64; 10], pair: &mut [u16; 2]) -> u32
+    ensures code { λ r. ⌜ r ≡ returnCode (writingIn (editionOf edition) (recordOf (now (words .entry)))) ⌝ }
+    ensures pair { λ r. ⌜ now (pair .exit) ≡ pairAfter (writingIn (editionOf edition) (recordOf (now (words .entry)))) (now (pair .entry)) ⌝ }
 {
-    let answer = encode::write(words::records::record_of(words));
+    let answer = encode::write(editions::edition_of(edition), words::records::record_of(words));
     match answer {
         Writing::Refused(f) => insn::refusal_number(f) as u32,
         Writing::Wrote(hw1, hw2) => {

@@ -8,6 +8,7 @@ ghost use Rattle.laws.specs.Placed.{Placed};
 ghost use Rattle.recipes.specs.Pairs.{addByte, wordPairs, joinPairs, halfPairs, pairsBy, pairsOf, halfwordsOf};
 ghost use Rattle.steps.specs.Rules.{keeps};
 ghost use Rattle.steps.specs.Steps.{stepAt, stepsFrom};
+use insn::Edition;
 use insn::Insn;
 use insn::Operand;
 use recipes::Recipe;
@@ -41,7 +42,7 @@ fn put(out: &mut [u16], at: usize, i: Insn) -> usize
     requires { ⌜ at < 2 ^ 32 ⌝ }
     ensures { λ r. ⌜ Placed 2 (now (out .entry)) at (halfwordsOf (i ∷ [])) (now (out .exit)) r ⌝ }
 {
-    let w = encode::write(i);
+    let w = encode::write(Edition::C, i);
     match w {
         Writing::Wrote(hw1, hw2) => put_pair(out, at, hw1, hw2),
         Writing::Refused(_) => at,

@@ -3,9 +3,12 @@
 use Prim.Native.Nat.{ℕ}
 use Prim.Native.String.{String}
 use Rattle.laws.specs.Answer.{Answer, refused}
+use Rattle.laws.specs.Choice.{choose}
+use Rattle.insn.specs.declared.Edition.{Edition}
 use Rattle.insn.specs.declared.Insn.{Insn}
 use Rattle.insn.specs.declared.Operand.{Operand}
 use Rattle.insn.specs.Record.{placeAt}
+use Rattle.editions.specs.Editions.{withholds}
 use Rattle.homes.specs.Home.{homeOf}
 use Rattle.names.specs.Names.{nameOf}
 use Rattle.homes.specs.declared.Home.{Home}
@@ -31,3 +34,7 @@ unfoldable pub writing : Insn → Answer Pair
 writing i =
     inHome (homeOf (nameOf (i .mnemonic)) (isNumber (placeAt i 2))) (nameOf (i .mnemonic)) (i .count)
     (placeAt i 0) (placeAt i 1) (placeAt i 2)
+
+-- the writing in an edition: the number of a name that it withholds is unknown, whatever the operands
+abbrev pub writingIn : Edition → Insn → Answer Pair
+writingIn edition i = choose (withholds edition (nameOf (i .mnemonic))) (refused 7) (writing i)

@@ -4,8 +4,9 @@ ghost use Rattle.homes.specs.Home.{homeOf};
 ghost use Rattle.names.specs.Names.{nameOf};
 ghost use Rattle.writings.specs.Answers.{writingAnswer};
 ghost use Rattle.writings.specs.Forms.{isNumber};
-ghost use Rattle.encode.specs.Writing.{inHome, writing};
+ghost use Rattle.encode.specs.Writing.{inHome, writingIn};
 use homes::Home;
+use insn::Edition;
 use insn::Insn;
 use insn::Operand;
 use insn::Refusal;
@@ -32,10 +33,13 @@ fn write_in(home: Home, m: u16, count: u8, a: Operand, b: Operand, c: Operand) -
     }
 }
 
-// The pair of a record, whatever its address and its mark.
-pub fn write(i: Insn) -> Writing
-    ensures { λ r. ⌜ writingAnswer r ≡ writing i ⌝ }
+// The pair of a record, as the edition has it, whatever its address and its mark.
+pub fn write(edition: Edition, i: Insn) -> Writing
+    ensures { λ r. ⌜ writingAnswer r ≡ writingIn edition i ⌝ }
 {
+    if editions::withholds(edition, i.mnemonic) {
+        return Writing::Refused(Refusal::UnknownMnemonic);
+    }
     let c = insn::place(i, 2);
     let home = homes::home_of(i.mnemonic, is_number(c));
     write_in(

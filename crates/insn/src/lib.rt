@@ -48,6 +48,12 @@ pub enum Sign {
     Signed,
 }
 
+// Which edition of the manual a call goes by: ARM DDI 0406B or 0406C.
+pub enum Edition {
+    B,
+    C,
+}
+
 // Why an input is refused; `refusal_number` has the number of each.
 pub enum Refusal {
     NoFamily,

@@ -11,6 +11,7 @@ ghost use Rattle.totals.specs.Totals.{sortOf, totalsText};
 ghost use Rattle.lines.specs.Listing.{halfwordAt, readingText, lineText, pairLine, numbersBelow, figure, isListable, endedLines, listing};
 ghost use Rattle.lines.specs.Own.{most};
 ghost use Rattle.laws.specs.Placed.{Placed};
+use insn::Edition;
 use insn::Refusal;
 use readings::Reading;
 use totals::Sort;
@@ -31,14 +32,15 @@ fn put_refusal(out: &mut [u8], at: usize, f: Refusal) -> usize
     text::put_five(out, q, insn::refusal_number(f) as u64)
 }
 
-// The record that a pair reads as, or the refusal; and its sort, refused by the same reading, else its family's.
+// The record that a pair reads as under edition C, or the refusal; and its sort, refused by the same reading, else its
+// family's.
 fn put_reading(out: &mut [u8], at: usize, hw1: u16, hw2: u16, names: &[u8; 4152]) -> Put
     requires { ⌜ NameTable (now names) ⌝ }
     requires { ⌜ at < 2 ^ 54 ⌝ }
     ensures text { λ r. ⌜ Placed 78 (now (out .entry)) at (readingText (reading hw1 hw2 0)) (now (out .exit)) (r .next) ⌝ }
     ensures sort { λ r. ⌜ r .sort ≡ sortOf hw1 hw2 ⌝ }
 {
-    let x = decode::read(hw1, hw2, 0);
+    let x = decode::read(Edition::C, hw1, hw2, 0);
     let if_accepted = totals::family_sort(decode::family_of(hw1, hw2));
     match x {
         Reading::Read(i) => Put {

@@ -3,6 +3,7 @@ ghost use mathlib.Core.Path.{_≡_};
 ghost use Rattle.machine.specs.Answers.{steppedAnswer};
 ghost use Rattle.machine.specs.Step.{effect, stepInsn, stepPair, fileAfter};
 ghost use Rattle.meanings.specs.Own.{Within};
+use insn::Edition;
 use insn::Insn;
 use insn::Refusal;
 use meanings::Meaning;
@@ -59,12 +60,12 @@ pub fn step_insn(file: [u64; 32], i: Insn) -> Stepped
     }
 }
 
-// One pair on a file: its refusal in reading, else that of its record.
+// One pair on a file: its refusal in reading, under edition C, else that of its record.
 pub fn step(file: [u64; 32], hw1: u16, hw2: u16) -> Stepped
     ensures answer { λ r. ⌜ steppedAnswer r ≡ stepPair hw1 hw2 file ⌝ }
     ensures left { λ r. ⌜ r .file ≡ fileAfter (stepPair hw1 hw2 file) file ⌝ }
 {
-    let answer = decode::read(hw1, hw2, 0);
+    let answer = decode::read(Edition::C, hw1, hw2, 0);
     match answer {
         Reading::Read(i) => step_insn(file, i),
         Reading::Refused(f) => Stepped {

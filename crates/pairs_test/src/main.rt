@@ -1,5 +1,6 @@
 // Replays the readings and writings on standard input, which tools/replay made from the Rust original's answers.
-// Each line has 90 bytes: r or w, hw1 hw2 address answer mnemonic mark count, then kind and value of three places.
+// Each line has 90 bytes: r or w, under edition B R or W, then hw1 hw2 address answer mnemonic mark count, then kind and
+// value of three places.
 use libc::STDIN_FILENO;
 use replay::field;
 use replay::put;
@@ -7,10 +8,10 @@ use replay::put_count;
 use replay::put_refused;
 use replay::record;
 
-// How many lines gave each answer, 0 to 9, and how many were not as the list says.
+// How many lines gave each answer, 0 to 9, first under edition C and then under B; and how many were not as the list says.
 struct Tally {
-    read: [u64; 10],
-    written: [u64; 10],
+    read: [[u64; 10]; 2],
+    written: [[u64; 10]; 2],
     wrong: u64,
 }
 
@@ -26,20 +27,20 @@ fn same(a: [u64; 10], b: [u64; 10]) -> bool {
 }
 
 // Whether a line's pair reads as the line says; on a refusal the record stays as it was.
-fn reads(line: &[u8; 90], hw1: u16, hw2: u16, answer: u64) -> bool {
+fn reads(line: &[u8; 90], edition: u32, hw1: u16, hw2: u16, answer: u64) -> bool {
     let address = (field(line, 12, 8) % 0x1_0000_0000) as u32;
     let before = [77u64; 10];
     let mut got = before;
-    let code = capi::bodlixo_read(hw1, hw2, address, &mut got);
+    let code = capi::bodlixo_read(edition, hw1, hw2, address, &mut got);
     let due = if answer == 0 { record(line) } else { before };
     code as u64 == answer && same(got, due)
 }
 
 // Whether a line's record is written as the line says; on a refusal the pair stays as it was.
-fn writes(line: &[u8; 90], hw1: u16, hw2: u16, answer: u64) -> bool {
+fn writes(line: &[u8; 90], edition: u32, hw1: u16, hw2: u16, answer: u64) -> bool {
     let words = record(line);
     let mut pair = [7u16; 2];
-    let code = capi::bodlixo_write(&words, &mut pair);
+    let code = capi::bodlixo_write(edition, &words, &mut pair);
     let due = if answer == 0 { [hw1, hw2] } else { [7, 7] };
     code as u64 == answer && pair[0] == due[0] && pair[1] == due[1]
 }
@@ -51,13 +52,15 @@ fn counted(t: Tally, line: &[u8; 90]) -> Tally {
     let hw2 = (field(line, 7, 4) % 65536) as u16;
     let answer = field(line, 21, 2);
     let at = (answer % 10) as usize;
-    let is_reading = line[0] == b'r';
-    let agrees = if is_reading {
-        next.read[at] = next.read[at] % 1000000 + 1;
-        reads(line, hw1, hw2, answer)
+    let sort = line[0];
+    let edition: u32 = if sort == b'R' || sort == b'W' { 1 } else { 0 };
+    let e = edition as usize;
+    let agrees = if sort == b'r' || sort == b'R' {
+        next.read[e][at] = next.read[e][at] % 1000000 + 1;
+        reads(line, edition, hw1, hw2, answer)
     } else {
-        next.written[at] = next.written[at] % 1000000 + 1;
-        writes(line, hw1, hw2, answer)
+        next.written[e][at] = next.written[e][at] % 1000000 + 1;
+        writes(line, edition, hw1, hw2, answer)
     };
     if !agrees {
         next.wrong = next.wrong % 1000000 + 1;
@@ -69,8 +72,8 @@ fn counted(t: Tally, line: &[u8; 90]) -> Tally {
 
 fn replayed() -> Tally {
     let mut t = Tally {
-        read: [0; 10],
-        written: [0; 10],
+        read: [[0; 10]; 2],
+        written: [[0; 10]; 2],
         wrong: 0,
     };
     let mut line = [0u8; 90];
@@ -111,7 +114,10 @@ fn main() {
     let t = replayed();
     let read = t.read;
     let written = t.written;
-    put_read(read);
-    put_written(written);
+    put_read(read[0]);
+    put_written(written[0]);
+    put(b"edition B\n");
+    put_read(read[1]);
+    put_written(written[1]);
     put_count(b"not as the list says ", t.wrong);
 }

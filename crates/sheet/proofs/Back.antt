@@ -5,6 +5,7 @@ use mathlib.Core.Bool.{Bool, true, false}
 use Prim.Native.Nat.{ℕ}
 use lib.Text.{eqt}
 use Rattle.laws.specs.Answer.{Answer, accepted}
+use Rattle.insn.specs.declared.Edition.the-variants.{C}
 use Rattle.insn.specs.declared.Insn.{Insn}
 use Rattle.insn.specs.declared.Mark.{Mark}
 use Rattle.insn.specs.declared.Mark.the-variants.{T1}
@@ -58,12 +59,12 @@ module _ (m : ℕ) (x y z : Operand) (plain : eqt (movedName (nameOf m)) "" ≡ 
     pub three-back : writing (insn m T1 0 3 x y z) ≡ accepted (pair hw1 hw2) → stepPair hw1 hw2 file ≡ stepInsn (insn m T1 0 3 x y z) file
     unfolding placeAt stepRead
     three-back e =
-        let r = writtenThenRead (insn m T1 0 3 x y z) hw1 hw2 0 held e in
+        let r = writtenThenRead C (insn m T1 0 3 x y z) hw1 hw2 0 held e in
         ap (λ (a : Answer Insn). stepRead a file) (r .read) ∙ three-step (r .mark) file
 
     pub two-back : eqt (nameOf m) "vorr" ≡ false → writing (insn m T1 0 2 x y Absent) ≡ accepted (pair hw1 hw2)
         → stepPair hw1 hw2 file ≡ stepInsn (insn m T1 0 2 x y Absent) file
     unfolding placeAt stepRead
     two-back other e =
-        let r = writtenThenRead (insn m T1 0 2 x y Absent) hw1 hw2 0 held e in
+        let r = writtenThenRead C (insn m T1 0 2 x y Absent) hw1 hw2 0 held e in
         ap (λ (a : Answer Insn). stepRead a file) (r .read) ∙ two-step other (r .mark) file

@@ -9,3 +9,4 @@ pub mod RoundShift
 pub mod Routing
 pub mod ShiftForth
 pub mod ShiftRows
+pub mod Withheld

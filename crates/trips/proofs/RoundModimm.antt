@@ -18,6 +18,7 @@ use Rattle.laws.proofs.Digits.{digit}
 use Rattle.laws.proofs.Range.{values, agree}
 use Rattle.laws.proofs.Search.{hit, only}
 use Rattle.laws.proofs.Never.{never, wrong}
+use Rattle.insn.specs.declared.Edition.the-variants.{C}
 use Rattle.insn.specs.declared.Insn.{Insn}
 use Rattle.insn.specs.declared.Mark.{Mark}
 use Rattle.insn.specs.declared.Mark.the-variants.{T1}
@@ -183,7 +184,7 @@ both-fields quad (refused n) y p e = never (cc)
 
 pub modimm-back : (m k count : ℕ) (a b c : Operand) (number : Bool) (hw1 hw2 address : ℕ) → homeOf (nameOf m) number ≡ Modimm k
     → (count ≡ 2 → c ≡ Absent) → Held b
-    → modimmWriting (nameOf m) count a b ≡ accepted (pair hw1 hw2) → ReadsAs hw1 hw2 address (canonical (spelt m count a b c))
+    → modimmWriting (nameOf m) count a b ≡ accepted (pair hw1 hw2) → ReadsAs C hw1 hw2 address (canonical (spelt m count a b c))
 unfolding modimmWriting modimmOf Read.two
 modimm-back m k count a b c number hw1 hw2 address home absent held e =
     let u = chosen (eqb count 2) _ 8 (pair hw1 hw2) e in

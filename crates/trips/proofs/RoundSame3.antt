@@ -12,6 +12,7 @@ use Rattle.laws.specs.Answer.{accepted, refused}
 use Rattle.laws.specs.Choice.{choose, both}
 use Rattle.laws.proofs.Digits.{digit}
 use Rattle.laws.proofs.Range.{values, agree}
+use Rattle.insn.specs.declared.Edition.the-variants.{C}
 use Rattle.insn.specs.declared.Insn.{Insn}
 use Rattle.insn.specs.declared.Mark.{Mark}
 use Rattle.insn.specs.declared.Mark.the-variants.{T1}
@@ -33,8 +34,9 @@ use Rattle.fields.specs.Promises.{FirstFields, SecondFields}
 use Rattle.fields.proofs.Promises.{firstUnpacked, secondUnpacked, firstPacked, secondPacked}
 use Rattle.readings.specs.Operands.{isSet, insn}
 use Rattle.readings.specs.Operands as Read
-use Rattle.read_registers.specs.Same3.{shiftsByRegister, same3Of, same3Reading}
-use Rattle.decode.specs.Reading.{reading, inFamily}
+use Rattle.read_registers.specs.Same3.{shiftsByRegister, same3Of, same3Name, same3Reading}
+use Rattle.decode.specs.Reading.{familyOf, reading, inFamily}
+use Rattle.decode.specs.declared.Family.the-variants.{ThreeSame}
 use Rattle.writings.specs.Forms.{Pair, pair, cellOf, asBit, isQuad, registerIn, Three, allThree, numbers}
 use Rattle.write_registers.specs.Same3.{same3Pair, same3Form, same3Writing, vorrCell, vmovWriting}
 use Rattle.trips.specs.Spelling.{sameRegister, isZero, movedName, canonical, withMark}
@@ -78,12 +80,18 @@ module _ (k d n m : ℕ) (quad : Bool) (hk : k < 256) (hd : d < 32) (hn : n < 32
       secondUnpacked (field 3 0 d) (field 6 3 k) (bit 4 n) (asBit quad) (bit 4 m) (bit 2 k) (field 3 0 m)
       (omega arith) (omega arith) (omega arith) (bit-small quad) (omega arith) (omega arith) (omega arith)
 
+  same-bits : SameBits h1
+  same-bits = record { top = f1 .top; middle = f1 .middle; a = f1 .a-back }
+
+  row-back : bit 12 h1 * 32 + field 11 8 h2 * 2 + bit 4 h2 ≡ k / 4
+  row-back = rw (f1 .u-back, f2 .o-back, f2 .b4-back) (cell-row k hk)
+
+  column-back : field 5 4 h1 ≡ k % 4
+  column-back = upper-two h1 (field 1 0 k) (field 3 0 n) (omega arith) (f1 .x-back) ∙ cell-column k
+
   reads : (address : ℕ) → reading h1 h2 address ≡ same3Of (cell4 same3 k) quad (field 6 3 k) d n m address
   reads address =
-      fields h1 h2 address (k / 4) (k % 4) (field 6 3 k) d n m quad
-      (record { top = f1 .top; middle = f1 .middle; a = f1 .a-back })
-      (rw (f1 .u-back, f2 .o-back, f2 .b4-back) (cell-row k hk))
-      (upper-two h1 (field 1 0 k) (field 3 0 n) (omega arith) (f1 .x-back) ∙ cell-column k)
+      fields h1 h2 address (k / 4) (k % 4) (field 6 3 k) d n m quad same-bits row-back column-back
       (rw (f2 .b6-back) (bit-set quad))
       (f2 .o-back)
       (rw (f1 .d-back, f2 .vd-back) (number-back d hd))
@@ -94,6 +102,11 @@ module _ (k d n m : ℕ) (quad : Bool) (hk : k < 256) (hd : d < 32) (hn : n < 32
       → (reading hw1 hw2 address ≡ same3Of (cell4 same3 k) quad (field 6 3 k) d n m address) × (hw1 < 65536) × (hw2 < 65536)
   unfolding same3Pair
   pair-reads hw1 hw2 address e = rw (← ap hw1Of e, ← ap hw2Of e) (reads address, f1 .halfword, f2 .halfword)
+
+  pub pair-cell : (hw1 hw2 : ℕ) → same3Pair k quad d n m ≡ pair hw1 hw2
+      → (familyOf hw1 hw2 ≡ ThreeSame) × (same3Name hw1 hw2 ≡ cell4 same3 k)
+  unfolding same3Pair
+  pair-cell hw1 hw2 e = rw (← ap hw1Of e, ← ap hw2Of e) (to-same h1 h2 same-bits, rw (row-back, column-back))
 
 -- what a writing that is accepted is made of
 pub record Written (k : ℕ) (name : String) (quad : Bool) (count : ℕ) (a b c : Operand) (hw1 hw2 : ℕ) : Type 0 where
@@ -163,7 +176,7 @@ no-vorr k h e =
 -- written, then read
 
 pub same3-back : (m k count : ℕ) (a b c : Operand) (number : Bool) (hw1 hw2 address : ℕ) → homeOf (nameOf m) number ≡ Same3 k
-    → same3Writing k (nameOf m) count a b c ≡ accepted (pair hw1 hw2) → ReadsAs hw1 hw2 address (canonical (spelt m count a b c))
+    → same3Writing k (nameOf m) count a b c ≡ accepted (pair hw1 hw2) → ReadsAs C hw1 hw2 address (canonical (spelt m count a b c))
 unfolding Read.three Read.two
 same3-back m k count a b c number hw1 hw2 address home e =
     go (shiftsByRegister (field 6 3 k)) (both (eqt (nameOf m) "vorr") (eqb (w .y) (w .z))) refl refl (w .packed)
@@ -185,7 +198,7 @@ same3-back m k count a b c number hw1 hw2 address home e =
 
     go : (s v : Bool) → shiftsByRegister (field 6 3 k) ≡ s → both (eqt (nameOf m) "vorr") (eqb (w .y) (w .z)) ≡ v
         → choose s (same3Pair k (isQuad a) (w .x) (w .z) (w .y)) (same3Pair k (isQuad a) (w .x) (w .y) (w .z)) ≡ pair hw1 hw2
-        → ReadsAs hw1 hw2 address (canonical (spelt m count a b c))
+        → ReadsAs C hw1 hw2 address (canonical (spelt m count a b c))
     go true v es ev p =
         let r = pair-reads k (w .x) (w .z) (w .y) (isQuad a) (st .within) (w .first .1) (w .third .1) (w .second .1) hw1 hw2 address p in
         let none : eqt (nameOf m) "vorr" ≡ false = rw (st .spelled) at (no-vorr k (st .within) es) in
@@ -227,7 +240,7 @@ one-number : (quad : Bool) (y z : ℕ) (b : Operand) → y < 32 → z < 32 → v
 one-number quad y z b hy hz ey ez = cc (sym (register-forth quad y b hy ey) ∙ register-forth quad z b hz ez)
 
 pub vmov-back : (m count : ℕ) (a b c : Operand) (number : Bool) (hw1 hw2 address : ℕ) → homeOf (nameOf m) number ≡ Vmov → (count ≡ 2 → c ≡ Absent)
-    → vmovWriting count a b ≡ accepted (pair hw1 hw2) → ReadsAs hw1 hw2 address (canonical (spelt m count a b c))
+    → vmovWriting count a b ≡ accepted (pair hw1 hw2) → ReadsAs C hw1 hw2 address (canonical (spelt m count a b c))
 unfolding vmovWriting Read.two
 vmov-back m count a b c number hw1 hw2 address home absent e =
     let u = chosen (eqb count 2) _ 8 (pair hw1 hw2) e in

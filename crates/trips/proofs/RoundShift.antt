@@ -13,6 +13,7 @@ use borrow.Author.Tests.{eqb-true}
 use Rattle.laws.specs.Answer.{accepted}
 use Rattle.laws.specs.Choice.{choose, both}
 use Rattle.laws.proofs.Range.{values, agree}
+use Rattle.insn.specs.declared.Edition.the-variants.{C}
 use Rattle.insn.specs.declared.Mark.the-variants.{T1}
 use Rattle.insn.specs.declared.Operand.{Operand}
 use Rattle.insn.specs.declared.Operand.the-variants.{D, Q, S, Imm, Float, Other, Absent}
@@ -201,7 +202,7 @@ module _ (k count : ℕ) (a b c : Operand) (hw1 hw2 address : ℕ) (hk : k < 256
       )
 
 pub shift-back : (m k count : ℕ) (a b c : Operand) (number : Bool) (hw1 hw2 address : ℕ) → homeOf (nameOf m) number ≡ Shift k
-    → shiftWriting k count a b c ≡ accepted (pair hw1 hw2) → ReadsAs hw1 hw2 address (canonical (spelt m count a b c))
+    → shiftWriting k count a b c ≡ accepted (pair hw1 hw2) → ReadsAs C hw1 hw2 address (canonical (spelt m count a b c))
 shift-back m k count a b c number hw1 hw2 address home e =
     go (isLong (classAt k)) (eqb (n k count a b c hw1 hw2 address (st .within) filled w) 0) refl refl
   where
@@ -227,7 +228,7 @@ shift-back m k count a b c number hw1 hw2 address home e =
     zero-is = ap isZero (amount-is k count a b c hw1 hw2 address (st .within) filled w)
 
     as-it-is : both (isLong (classAt k)) (eqb (n k count a b c hw1 hw2 address (st .within) filled w) 0) ≡ false
-        → both (not (eqt (movedName (nameOf m)) "")) (isZero c) ≡ false → ReadsAs hw1 hw2 address (canonical (spelt m count a b c))
+        → both (not (eqt (movedName (nameOf m)) "")) (isZero c) ≡ false → ReadsAs C hw1 hw2 address (canonical (spelt m count a b c))
     as-it-is z q =
         record {
           first-halfword = is-read k count a b c hw1 hw2 address (st .within) filled w .1;
@@ -237,7 +238,7 @@ shift-back m k count a b c number hw1 hw2 address home e =
         }
 
     go : (l z : Bool) → isLong (classAt k) ≡ l → eqb (n k count a b c hw1 hw2 address (st .within) filled w) 0 ≡ z
-        → ReadsAs hw1 hw2 address (canonical (spelt m count a b c))
+        → ReadsAs C hw1 hw2 address (canonical (spelt m count a b c))
     go false z el ez = as-it-is (rw el) (rw (name-is, el))
     go true false el ez = as-it-is (rw (el, ez)) (rw (zero-is, ez) (both-no (not (eqt (movedName (nameOf m)) ""))))
     go true true el ez =
@@ -278,7 +279,7 @@ vmovl-names k h = (
 )
 
 pub vmovl-back : (m k count : ℕ) (a b c : Operand) (number : Bool) (hw1 hw2 address : ℕ) → homeOf (nameOf m) number ≡ Vmovl k → (count ≡ 2 → c ≡ Absent)
-    → vmovlWriting k count a b ≡ accepted (pair hw1 hw2) → ReadsAs hw1 hw2 address (canonical (spelt m count a b c))
+    → vmovlWriting k count a b ≡ accepted (pair hw1 hw2) → ReadsAs C hw1 hw2 address (canonical (spelt m count a b c))
 unfolding vmovlWriting
 vmovl-back m k count a b c number hw1 hw2 address home absent e =
     let u = chosen (eqb count 2) _ 8 (pair hw1 hw2) e in

@@ -1,30 +1,67 @@
--- Promises beyond the contracts; proofs/Promises.antt proves each under its name.
+-- Demand 2, in each edition of the manual, and what the editions have in common. proofs/Promises.antt proves each promise
+-- under its name.
 -- Assumes nothing.
+use mathlib.Core.Bool.{Bool, true, false}
 use mathlib.Core.Path.{_≡_}
 use Prim.Native.Nat.{ℕ, _<_}
-use Rattle.laws.specs.Answer.{accepted}
+use Prim.Native.String.{String, slice}
+use lib.Text.{eqt}
+use Rattle.laws.specs.Answer.{accepted, refused}
+use Rattle.laws.specs.Choice.{choose}
+use Rattle.insn.specs.declared.Edition.{Edition}
+use Rattle.insn.specs.declared.Edition.the-variants.{B, C}
 use Rattle.insn.specs.declared.Insn.{Insn}
 use Rattle.insn.specs.declared.Mark.{Mark}
 use Rattle.insn.specs.Record.{placeAt}
+use Rattle.names.specs.Names.{nameOf}
+use Rattle.decode.specs.Editions.{isFused, readingIn}
 use Rattle.decode.specs.Reading.{reading}
 use Rattle.writings.specs.Forms.{pair}
 use Rattle.trips.specs.Spelling.{Spelling, Held, spelling, spelled, canonical, withMark}
-use Rattle.encode.specs.Writing.{writing}
+use Rattle.encode.specs.Writing.{writing, writingIn}
 
 -- demand 2, one way: a pair that is read, written again, is the same pair, whatever the record's mark and address
 abbrev pub ReadThenWritten : Type 0
 ReadThenWritten =
-    (hw1 hw2 address : ℕ) (i : Insn) (mark : Mark) (other : ℕ) → hw1 < 65536 → hw2 < 65536
-    → reading hw1 hw2 address ≡ accepted i → writing (withMark i mark other) ≡ accepted (pair hw1 hw2)
+    (edition : Edition) (hw1 hw2 address : ℕ) (i : Insn) (mark : Mark) (other : ℕ) → hw1 < 65536 → hw2 < 65536
+    → readingIn edition hw1 hw2 address ≡ accepted i → writingIn edition (withMark i mark other) ≡ accepted (pair hw1 hw2)
 
 -- and the other: a record that is written reads back in its canonical spelling, at any address
-pub record ReadsAs (hw1 hw2 address : ℕ) (s : Spelling) : Type 0 where
+pub record ReadsAs (edition : Edition) (hw1 hw2 address : ℕ) (s : Spelling) : Type 0 where
   pub first-halfword : hw1 < 65536
   pub second-halfword : hw2 < 65536
   pub mark : Mark
-  pub read : reading hw1 hw2 address ≡ accepted (spelled s mark address)
+  pub read : readingIn edition hw1 hw2 address ≡ accepted (spelled s mark address)
 
 abbrev pub WrittenThenRead : Type 0
 WrittenThenRead =
-    (i : Insn) (hw1 hw2 address : ℕ) → Held (placeAt i 1)
-    → writing i ≡ accepted (pair hw1 hw2) → ReadsAs hw1 hw2 address (canonical (spelling i))
+    (edition : Edition) (i : Insn) (hw1 hw2 address : ℕ) → Held (placeAt i 1)
+    → writingIn edition i ≡ accepted (pair hw1 hw2) → ReadsAs edition hw1 hw2 address (canonical (spelling i))
+
+-- under C all is as it was before calls named an edition
+abbrev pub UnderC : Type 0
+UnderC =
+    ((hw1 hw2 address : ℕ) → readingIn C hw1 hw2 address ≡ reading hw1 hw2 address)
+    × ((i : Insn) → writingIn C i ≡ writing i)
+
+-- a name of VFMA or VFMS
+abbrev pub isFusedName : String → Bool
+isFusedName name = choose (eqt (slice name 0 4) "vfma") true (eqt (slice name 0 4) "vfms")
+
+-- under B their pairs are refused with 3, whatever the registers, and their names with 7, whatever the operands
+abbrev pub WithheldUnderB : Type 0
+WithheldUnderB =
+    ((hw1 hw2 address : ℕ) → isFused hw1 hw2 ≡ true → readingIn B hw1 hw2 address ≡ refused 3)
+    × ((i : Insn) → isFusedName (nameOf (i .mnemonic)) ≡ true → writingIn B i ≡ refused 7)
+
+-- every other pair, and every record with another name, has the same answer under B and C
+abbrev pub SameOtherwise : Type 0
+SameOtherwise =
+    ((hw1 hw2 address : ℕ) → isFused hw1 hw2 ≡ false → readingIn B hw1 hw2 address ≡ readingIn C hw1 hw2 address)
+    × ((i : Insn) → isFusedName (nameOf (i .mnemonic)) ≡ false → writingIn B i ≡ writingIn C i)
+
+-- under B no pair is read with such a name
+abbrev pub NeverRead : Type 0
+NeverRead =
+    (hw1 hw2 address : ℕ) (i : Insn) → hw1 < 65536 → hw2 < 65536
+    → readingIn B hw1 hw2 address ≡ accepted i → isFusedName (nameOf (i .mnemonic)) ≡ false

@@ -61,6 +61,8 @@ const NUMBERS: [u16; 10] = [0, 1, 2, 4, 8, 15, 16, 17, 30, 31];
 const SAME_ROWS: [u16; 2] = [16, 8];
 const DIFFERENT_ROWS: [u16; 3] = [0, 1, 4];
 const SHIFT_ROWS: [u16; 5] = [0, 1, 16, 20, 28];
+/// vfma and vfms: U 0, opc 12, B 1.
+const FUSED_ROW: u16 = 25;
 /// vorr, whose equal sources make it vmov.
 const VORR: (u16, u16) = (3, 2);
 /// op 0, cmode 15 is vmov.f32; op 1, cmode 14 is vmov.i64.
@@ -168,6 +170,21 @@ fn bytes(sample: &mut BTreeSet<Pair>) {
             sample.insert(modimm(PER_BYTE[1], byte, byte & 1, [30, 0, 0]));
         }
     }
+}
+
+/// vfma and vfms, D and Q, with each of the register numbers in every field, and with one bit changed.
+pub fn fused() -> BTreeSet<Pair> {
+    let mut sample = BTreeSet::new();
+    for (size, q) in [(0, 0), (0, 1), (2, 0), (2, 1)] {
+        for number in NUMBERS {
+            sample.insert(same(FUSED_ROW, size, q, [number, 10, 22]));
+            sample.insert(same(FUSED_ROW, size, q, [4, number, 22]));
+            sample.insert(same(FUSED_ROW, size, q, [4, 10, number]));
+        }
+        let (hw1, hw2) = same(FUSED_ROW, size, q, [4, 10, 22]);
+        sample.extend((0..16).flat_map(|bit| [(hw1 ^ 1 << bit, hw2), (hw1, hw2 ^ 1 << bit)]));
+    }
+    sample
 }
 
 /// Pairs just outside a family: each fixed bit of hw1 changed alone, and each of the bits that

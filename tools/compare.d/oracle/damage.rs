@@ -189,7 +189,7 @@ pub fn with_place(record: &Record, i: usize, (kind, value): Place) -> Record {
     damaged
 }
 
-fn with_count(record: &Record, count: u64) -> Record {
+pub fn with_count(record: &Record, count: u64) -> Record {
     let mut damaged = *record;
     damaged[3] = count;
     damaged

@@ -3,6 +3,7 @@
 pub mod chosen;
 pub mod clock;
 pub mod damage;
+pub mod editions;
 pub mod family;
 pub mod names;
 pub mod reading;
@@ -12,6 +13,7 @@ pub mod samples;
 pub mod values;
 pub mod writing;
 
+pub use editions::Edition;
 pub use family::{decode, encode, family, Family};
 pub use names::Names;
 pub use original::isa;

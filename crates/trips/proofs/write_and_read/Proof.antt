@@ -17,8 +17,8 @@ returns-2 : tie.Need-returns-2
 returns-2 c =
     let a = c .before .before .before .before .before in
     let e = sym (c .before .before .before .before .write .ensures) ∙ ap writingAnswer (c .before .before .answer2 .given .1) in
-    let held = place-held (a .args .i) (operand-held (a .args .i .second) _ (a .good .0 .1 .1 .1 .1 .1 .1 .1 .0)) in
-    let r = writtenThenRead (a .args .i) _ _ (a .args .address) held e in
+    let held = place-held (a .args .i) (operand-held (a .args .i .second) _ (a .good .1 .0 .1 .1 .1 .1 .1 .1 .1 .0)) in
+    let r = writtenThenRead (a .args .edition) (a .args .i) _ _ (a .args .address) held e in
     rw e (c .read .ensures, (r .mark, c .read .ensures ∙ r .read))
 
 pub write-and-read-spec : {M : Type 1} → statement M

@@ -1,0 +1,180 @@
+-- What edition B withholds: the pairs that its names are written as, and the names that its cells are read with.
+-- Assumes nothing.
+use mathlib.Core.Path.{_≡_, refl, sym, ap, _∙_}
+use mathlib.Core.Bool.{Bool, true, false}
+use Prim.Native.Nat.{ℕ, _<_}
+use Prim.Native.String.{String}
+use lib.Text.{eqt}
+use Rattle.laws.specs.Answer.{accepted}
+use Rattle.laws.specs.Choice.{choose, both}
+use Rattle.laws.proofs.Never.{wrong}
+use Rattle.laws.proofs.Range.{values, agree}
+use Rattle.laws.proofs.Tests.{sides, both-true, both-no, same-text}
+use Rattle.insn.specs.declared.Edition.the-variants.{B}
+use Rattle.insn.specs.declared.Insn.{Insn}
+use Rattle.insn.specs.declared.Mark.the-variants.{T1}
+use Rattle.insn.specs.Record.{placeAt}
+use Rattle.names.specs.Names.{names, nameOf, numberOf, pairwise}
+use Rattle.names.proofs.Spellings.{no-name}
+use Rattle.editions.specs.Editions.{withholds}
+use Rattle.homes.specs.Home.{homeOf}
+use Rattle.homes.specs.declared.Home.{Home}
+use Rattle.homes.specs.declared.Home.the-variants.{Same3, Shift, Vmovl, Modimm, Diff, Vmov, Nowhere}
+use Rattle.homes.proofs.Homes.{homes, listedHome, home-at}
+use Rattle.homes.proofs.Cells.{Stands, same3-stands}
+use Rattle.register_tables.specs.Same3.{same3}
+use Rattle.tables.proofs.Cells.{cell4}
+use Rattle.fields.specs.Halfwords.{field}
+use Rattle.fields.specs.Registers.{vecOf}
+use Rattle.readings.specs.Operands as Read
+use Rattle.readings.proofs.Parts.{operands}
+use Rattle.read_registers.specs.Same3.{shiftsByRegister, same3Of, same3Name, same3Reading}
+use Rattle.decode.specs.Reading.{familyOf, inFamily, reading}
+use Rattle.decode.specs.Editions.{isThreeSame, isWithheld}
+use Rattle.decode.specs.declared.Family.{Family}
+use Rattle.decode.specs.declared.Family.the-variants.{ThreeSame, ThreeDifferent, Shift as shift, ModifiedImmediate, NoFamily}
+use Rattle.writings.specs.Forms.{pair, isNumber, isQuad}
+use Rattle.write_registers.specs.Same3.{same3Pair, same3Writing}
+use Rattle.encode.specs.Writing.{inHome, writing}
+use Rattle.trips.specs.Spelling.{Spelling, isMove, isLongMove, movedName, renamed, canonical}
+use Rattle.trips.specs.Promises.{isFusedName}
+use Rattle.trips.proofs.RoundSame3.{Written, written, pair-cell}
+
+-- the names that it withholds are those of VFMA and VFMS
+fused-below : (m : ℕ) → m < 346 → isFusedName (nameOf m) ≡ withholds B (nameOf m)
+unfolding values names nameOf
+fused-below = agree (λ (m : ℕ). isFusedName (nameOf m)) (λ (m : ℕ). withholds B (nameOf m)) 346 refl
+
+pub fused-name : (m : ℕ) → isFusedName (nameOf m) ≡ withholds B (nameOf m)
+fused-name m = sides 346 m (fused-below m) (λ h. rw (no-name m h))
+
+-- they are at home in table A7-9
+abbrev inSame3 : Home → Bool
+inSame3 (Same3 k) = true
+inSame3 (Shift k) = false
+inSame3 (Vmovl k) = false
+inSame3 (Modimm k) = false
+inSame3 (Diff k) = false
+inSame3 Vmov = false
+inSame3 Nowhere = false
+
+abbrev housed : Bool → ℕ → Bool
+housed number m = choose (withholds B (nameOf m)) (inSame3 (listedHome number m)) true
+
+housed-below : (number : Bool) (m : ℕ) → m < 346 → housed number m ≡ true
+unfolding values names nameOf homes
+housed-below true = agree (housed true) (λ (m : ℕ). true) 346 refl
+housed-below false = agree (housed false) (λ (m : ℕ). true) 346 refl
+
+in-same3 : (number : Bool) (m : ℕ) → withholds B (nameOf m) ≡ true → inSame3 (homeOf (nameOf m) number) ≡ true
+in-same3 number m w =
+    ap inSame3 (home-at number m)
+    ∙ sides 346 m (λ h. rw w at (housed-below number m h)) (λ h. wrong (ap (withholds B) (sym (no-name m h)) ∙ w))
+
+-- so the pair of a withheld name is of a withheld cell
+pub written-withheld : (i : Insn) (hw1 hw2 : ℕ) → withholds B (nameOf (i .mnemonic)) ≡ true → writing i ≡ accepted (pair hw1 hw2) → isWithheld B hw1 hw2 ≡ true
+unfolding writing
+written-withheld i hw1 hw2 w e = go (homeOf (nameOf m) number) refl e
+  where
+    m : ℕ
+    m = i .mnemonic
+
+    number : Bool
+    number = isNumber (placeAt i 2)
+
+    of-cell : (k : ℕ) → homeOf (nameOf m) number ≡ Same3 k → (familyOf hw1 hw2 ≡ ThreeSame) × (same3Name hw1 hw2 ≡ nameOf m) → isWithheld B hw1 hw2 ≡ true
+    of-cell k h c = rw (c .1, c .0, w)
+
+    elsewhere : (h : Home) → homeOf (nameOf m) number ≡ h → inSame3 h ≡ true
+    elsewhere h e = sym (ap inSame3 e) ∙ in-same3 number m w
+
+    go : (h : Home) → homeOf (nameOf m) number ≡ h
+        → inHome h (nameOf m) (i .count) (placeAt i 0) (placeAt i 1) (placeAt i 2) ≡ accepted (pair hw1 hw2) → isWithheld B hw1 hw2 ≡ true
+    go (Same3 k) h q = by (shiftsByRegister (field 6 3 k)) (r .packed)
+      where
+        st : Stands m k 256 (cell4 same3)
+        st = same3-stands number m k h
+
+        r : Written k (nameOf m) (isQuad (placeAt i 0)) (i .count) (placeAt i 0) (placeAt i 1) (placeAt i 2) hw1 hw2
+        r = written k (nameOf m) (i .count) (placeAt i 0) (placeAt i 1) (placeAt i 2) hw1 hw2 q
+
+        by : (s : Bool) → choose s (same3Pair k (isQuad (placeAt i 0)) (r .x) (r .z) (r .y)) (same3Pair k (isQuad (placeAt i 0)) (r .x) (r .y) (r .z)) ≡ pair hw1 hw2 → isWithheld B hw1 hw2 ≡ true
+        by true p = let c = pair-cell k (r .x) (r .z) (r .y) (isQuad (placeAt i 0)) (st .within) (r .first .1) (r .third .1) (r .second .1) hw1 hw2 p in of-cell k h (c .0, c .1 ∙ st .spelled)
+        by false p = let c = pair-cell k (r .x) (r .y) (r .z) (isQuad (placeAt i 0)) (st .within) (r .first .1) (r .second .1) (r .third .1) hw1 hw2 p in of-cell k h (c .0, c .1 ∙ st .spelled)
+    go (Shift k) h q = wrong (elsewhere (Shift k) h)
+    go (Vmovl k) h q = wrong (elsewhere (Vmovl k) h)
+    go (Modimm k) h q = wrong (elsewhere (Modimm k) h)
+    go (Diff k) h q = wrong (elsewhere (Diff k) h)
+    go Vmov h q = wrong (elsewhere Vmov h)
+    go Nowhere h q = wrong (elsewhere Nowhere h)
+
+-- what a withheld name is not, and that its number has it
+pub record Plain (name : String) : Type 0 where
+  pub filled : eqt name "" ≡ false
+  pub single : pairwise name ≡ false
+  pub other : eqt name "vorr" ≡ false
+  pub back : nameOf (numberOf name) ≡ name
+
+plain : (name : String) → withholds B name ≡ true → Plain name
+unfolding names nameOf numberOf pairwise
+plain name w = go (eqt "vfma.f32" name) (eqt "vfms.f32" name) refl refl w
+  where
+    go : (a b : Bool) → eqt "vfma.f32" name ≡ a → eqt "vfms.f32" name ≡ b → choose a true (choose b true false) ≡ true → Plain name
+    go true b ea eb h = rw (← same-text "vfma.f32" name ea) (record { filled = refl; single = refl; other = refl; back = refl })
+    go false true ea eb h = rw (← same-text "vfms.f32" name eb) (record { filled = refl; single = refl; other = refl; back = refl })
+    go false false ea eb h = wrong h
+
+-- so its cell is read with it
+cell-read : (name : String) (quad : Bool) (opc d n m address : ℕ) (i : Insn) → Plain name
+    → same3Of name quad opc d n m address ≡ accepted i → i .mnemonic ≡ numberOf name
+unfolding same3Of
+cell-read name quad opc d n m address i p e = go (shiftsByRegister opc) (rw (p .filled, p .single, both-no quad, p .other) at e)
+  where
+    go : (s : Bool) → choose s (Read.three (numberOf name) T1 address (vecOf quad d) (vecOf quad m) (vecOf quad n)) (Read.three (numberOf name) T1 address (vecOf quad d) (vecOf quad n) (vecOf quad m)) ≡ accepted i
+        → i .mnemonic ≡ numberOf name
+    go true q = ap (λ (j : Insn). j .mnemonic) (sym (operands _ T1 address _ _ _ i q .is))
+    go false q = ap (λ (j : Insn). j .mnemonic) (sym (operands _ T1 address _ _ _ i q .is))
+
+three-same : (f : Family) → isThreeSame f ≡ true → f ≡ ThreeSame
+three-same ThreeSame e = refl
+three-same ThreeDifferent e = wrong e
+three-same shift e = wrong e
+three-same ModifiedImmediate e = wrong e
+three-same NoFamily e = wrong e
+
+pub withheld-read : (hw1 hw2 address : ℕ) (i : Insn) → isWithheld B hw1 hw2 ≡ true → reading hw1 hw2 address ≡ accepted i
+    → withholds B (nameOf (i .mnemonic)) ≡ true
+unfolding reading inFamily same3Reading
+withheld-read hw1 hw2 address i w e =
+    let t = both-true (withholds B (same3Name hw1 hw2)) _ w in
+    let p = plain (same3Name hw1 hw2) (t .0) in
+    let named = cell-read (same3Name hw1 hw2) _ _ _ _ _ address i p (rw (three-same (familyOf hw1 hw2) (t .1)) at e) in
+    rw (named, p .back) (t .0)
+
+-- and neither of the two spellings is a withheld name
+moved-kept : (name : String) → withholds B (nameOf (numberOf (movedName name))) ≡ false
+unfolding names nameOf numberOf
+moved-kept name =
+    go (eqt name "vshll.s8") (eqt name "vshll.s16") (eqt name "vshll.s32") (eqt name "vshll.u8") (eqt name "vshll.u16") (eqt name "vshll.u32")
+  where
+    go : (a b c d e f : Bool) → withholds B (nameOf (numberOf (choose a "vmovl.s8" (choose b "vmovl.s16" (choose c "vmovl.s32" (choose d "vmovl.u8" (choose e "vmovl.u16" (choose f "vmovl.u32" "")))))))) ≡ false
+    go true b c d e f = refl
+    go false true c d e f = refl
+    go false false true d e f = refl
+    go false false false true e f = refl
+    go false false false false true f = refl
+    go false false false false false true = refl
+    go false false false false false false = refl
+
+vmov-kept : withholds B (nameOf (numberOf "vmov")) ≡ false
+unfolding names nameOf numberOf
+vmov-kept = refl
+
+pub canonical-kept : (s : Spelling) → withholds B (nameOf (s .mnemonic)) ≡ false → withholds B (nameOf (canonical s .mnemonic)) ≡ false
+unfolding canonical
+canonical-kept s h = go (isMove s) (isLongMove s)
+  where
+    go : (a b : Bool) → withholds B (nameOf (choose a (renamed "vmov" s) (choose b (renamed (movedName (nameOf (s .mnemonic))) s) s) .mnemonic)) ≡ false
+    go true b = vmov-kept
+    go false true = moved-kept (nameOf (s .mnemonic))
+    go false false = h
