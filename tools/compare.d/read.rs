@@ -96,7 +96,7 @@ fn main() -> ExitCode {
     report.expect(withheld, WITHHELD, || "the pairs that differ under B".to_string());
     let outside = outside(&mut report);
     println!(
-        "  under B {} pairs differ, those of vfma and vfms: {} accepted and {} refused with 6 under C",
+        "  under B {} pairs differ, those of vfma and vfms, all 3: under C {} accepted, {} refused with 6",
         withheld.iter().sum::<u64>(),
         withheld[0],
         withheld[6]

@@ -127,7 +127,7 @@ fn main() -> ExitCode {
         total.add(&std::mem::take(&mut check.counts));
     }
     println!(
-        "  under B {} records of vfma and vfms refused with 7: {} written and {} refused with 8 under C",
+        "  under B {} records of vfma and vfms differ, all 7: under C {} written, {} refused with 8",
         check.withheld.iter().sum::<u64>(),
         check.withheld[0],
         check.withheld[8]

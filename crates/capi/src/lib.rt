@@ -13,6 +13,7 @@ ghost use Rattle.listing.specs.Answers.{lengthFor, outAfter};
 ghost use Rattle.lines.specs.Listing.{listing};
 ghost use Rattle.words.specs.Records.{recordOf};
 ghost use Rattle.capi.specs.Results.{returnCode, recordAfter, pairAfter, endCode, codeAt, countOrPlace, executedOr0, acceptedOr0};
+use editions::edition_of;
 use listing::Listed;
 use machine::Outcome;
 use readings::Reading;
@@ -31,7 +32,7 @@ pub extern "C" fn bodlixo_read(
     ensures code { λ r. ⌜ r ≡ returnCode (readingIn (editionOf edition) hw1 hw2 address) ⌝ }
     ensures record { λ r. ⌜ now (out .exit) ≡ recordAfter (readingIn (editionOf edition) hw1 hw2 address) (now (out .entry)) ⌝ }
 {
-    let answer = decode::read(editions::edition_of(edition), hw1, hw2, address);
+    let answer = decode::read(edition_of(edition), hw1, hw2, address);
     match answer {
         Reading::Refused(f) => insn::refusal_number(f) as u32,
         Reading::Read(i) => {
@@ -47,7 +48,7 @@ pub extern "C" fn bodlixo_write(edition: u32, words: &[u64; 10], pair: &mut [u16
     ensures code { λ r. ⌜ r ≡ returnCode (writingIn (editionOf edition) (recordOf (now (words .entry)))) ⌝ }
     ensures pair { λ r. ⌜ now (pair .exit) ≡ pairAfter (writingIn (editionOf edition) (recordOf (now (words .entry)))) (now (pair .entry)) ⌝ }
 {
-    let answer = encode::write(editions::edition_of(edition), words::records::record_of(words));
+    let answer = encode::write(edition_of(edition), words::records::record_of(words));
     match answer {
         Writing::Refused(f) => insn::refusal_number(f) as u32,
         Writing::Wrote(hw1, hw2) => {

@@ -49,7 +49,7 @@ withheld-cell = agree2 (λ (r c : ℕ). withholds B (cellAt same3 r c)) (λ (r c
 top-bits : (h : ℕ) → field 15 7 h ≡ field 15 13 h * 64 + bit 12 h * 32 + field 11 8 h * 2 + bit 7 h
 top-bits h =
     let whole : h / 128 ≡ h / 65536 * 512 + (field 15 13 h * 64 + bit 12 h * 32 + field 11 8 h * 2 + bit 7 h) =
-        omega (arith, digit h 128 2, digit h 256 16, digit h 4096 2, digit h 8192 8) in
+    omega (arith, digit h 128 2, digit h 256 16, digit h 4096 2, digit h 8192 8) in
     ap (λ (x : ℕ). x % 512) whole ∙ digits-mod (h / 65536) (omega arith)
 
 module _ (hw1 hw2 : ℕ) where

@@ -8,10 +8,12 @@ use replay::put_count;
 use replay::put_refused;
 use replay::record;
 
-// How many lines gave each answer, 0 to 9, first under edition C and then under B; and how many were not as the list says.
+// How many lines gave each answer, 0 to 9, under edition C and under B; and how many were not as the list says.
 struct Tally {
-    read: [[u64; 10]; 2],
-    written: [[u64; 10]; 2],
+    read: [u64; 10],
+    written: [u64; 10],
+    read_b: [u64; 10],
+    written_b: [u64; 10],
     wrong: u64,
 }
 
@@ -53,14 +55,18 @@ fn counted(t: Tally, line: &[u8; 90]) -> Tally {
     let answer = field(line, 21, 2);
     let at = (answer % 10) as usize;
     let sort = line[0];
-    let edition: u32 = if sort == b'R' || sort == b'W' { 1 } else { 0 };
-    let e = edition as usize;
-    let agrees = if sort == b'r' || sort == b'R' {
-        next.read[e][at] = next.read[e][at] % 1000000 + 1;
-        reads(line, edition, hw1, hw2, answer)
+    let agrees = if sort == b'r' {
+        next.read[at] = next.read[at] % 1000000 + 1;
+        reads(line, 0, hw1, hw2, answer)
+    } else if sort == b'w' {
+        next.written[at] = next.written[at] % 1000000 + 1;
+        writes(line, 0, hw1, hw2, answer)
+    } else if sort == b'R' {
+        next.read_b[at] = next.read_b[at] % 1000000 + 1;
+        reads(line, 1, hw1, hw2, answer)
     } else {
-        next.written[e][at] = next.written[e][at] % 1000000 + 1;
-        writes(line, edition, hw1, hw2, answer)
+        next.written_b[at] = next.written_b[at] % 1000000 + 1;
+        writes(line, 1, hw1, hw2, answer)
     };
     if !agrees {
         next.wrong = next.wrong % 1000000 + 1;
@@ -72,8 +78,10 @@ fn counted(t: Tally, line: &[u8; 90]) -> Tally {
 
 fn replayed() -> Tally {
     let mut t = Tally {
-        read: [[0; 10]; 2],
-        written: [[0; 10]; 2],
+        read: [0; 10],
+        written: [0; 10],
+        read_b: [0; 10],
+        written_b: [0; 10],
         wrong: 0,
     };
     let mut line = [0u8; 90];
@@ -114,10 +122,12 @@ fn main() {
     let t = replayed();
     let read = t.read;
     let written = t.written;
-    put_read(read[0]);
-    put_written(written[0]);
+    let read_b = t.read_b;
+    let written_b = t.written_b;
+    put_read(read);
+    put_written(written);
     put(b"edition B\n");
-    put_read(read[1]);
-    put_written(written[1]);
+    put_read(read_b);
+    put_written(written_b);
     put_count(b"not as the list says ", t.wrong);
 }
