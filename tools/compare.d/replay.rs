@@ -76,23 +76,29 @@ fn written_line(edition: Edition, record: &Record, names: &Names, forms: &Forms)
     line(pair.unwrap_or((0, 0)), forms.refusal(record), record)
 }
 
-/// The pairs of vfma and vfms, those one bit away from them, and every sixteenth of the others.
-fn pairs_under_b() -> BTreeSet<Pair> {
-    let others = chosen::pairs().into_iter().step_by(16);
-    chosen::fused().into_iter().chain(others).collect()
+/// Of a list, what is withheld and every sixteenth.
+fn thinned<T: Ord>(list: BTreeSet<T>, withheld: impl Fn(&T) -> bool) -> BTreeSet<T> {
+    let kept = list.into_iter().enumerate().filter(|(i, item)| i % 16 == 0 || withheld(item));
+    kept.map(|(_, item)| item).collect()
 }
 
-/// The records of these pairs under C; those of vfma and vfms also with other counts and other values
-/// in their places; and every sixteenth of the records under C.
+/// vfma and vfms in all their forms, the pairs one bit away from them, and a part of the others.
+fn pairs_under_b() -> BTreeSet<Pair> {
+    let mut pairs = thinned(chosen::pairs(), |&(hw1, hw2)| Edition::B.withholds_pair(hw1, hw2));
+    pairs.extend(chosen::fused());
+    pairs
+}
+
+/// The records of these pairs under C, and a part of the records under C; those of vfma and vfms also
+/// with other counts and other values in their places.
 fn records_under_b(names: &Names, forms: &Forms) -> BTreeSet<Record> {
-    let mut records: BTreeSet<_> =
-        chosen_records(names, forms).into_iter().step_by(16).collect();
+    let withheld = |record: &Record| Edition::B.withholds_record(record, names);
+    let mut records = thinned(chosen_records(names, forms), withheld);
     for (hw1, hw2) in pairs_under_b() {
         let insn = decode(hw1, hw2, address(hw1, hw2));
         records.extend(insn.map(|insn| record::of_insn(&insn, names)));
     }
-    let fused = |record: &Record| Edition::B.withholds_record(record, names);
-    for record in records.clone().into_iter().filter(fused).step_by(16) {
+    for record in records.clone().into_iter().filter(withheld).step_by(16) {
         records.extend([0, 1, 2, 4].map(|count| with_count(&record, count)));
         for place in 0..3 {
             records.extend(FEW.map(|value| with_place(&record, place, value)));

@@ -103,7 +103,7 @@ module _ (k d n m : ℕ) (quad : Bool) (hk : k < 256) (hd : d < 32) (hn : n < 32
   unfolding same3Pair
   pair-reads hw1 hw2 address e = rw (← ap hw1Of e, ← ap hw2Of e) (reads address, f1 .halfword, f2 .halfword)
 
-  pub pair-cell : (hw1 hw2 : ℕ) → same3Pair k quad d n m ≡ pair hw1 hw2
+  pair-cell : (hw1 hw2 : ℕ) → same3Pair k quad d n m ≡ pair hw1 hw2
       → (familyOf hw1 hw2 ≡ ThreeSame) × (same3Name hw1 hw2 ≡ cell4 same3 k)
   unfolding same3Pair
   pair-cell hw1 hw2 e = rw (← ap hw1Of e, ← ap hw2Of e) (to-same h1 h2 same-bits, rw (row-back, column-back))
@@ -145,6 +145,16 @@ written k name count a b c hw1 hw2 e =
           single = p .0;
           packed = cc (p .1);
         }
+
+-- its pair is of the cell
+pub written-cell : (k : ℕ) {name : String} {quad : Bool} {count : ℕ} {a b c : Operand} {hw1 hw2 : ℕ} → k < 256 → Written k name quad count a b c hw1 hw2
+    → (familyOf hw1 hw2 ≡ ThreeSame) × (same3Name hw1 hw2 ≡ cell4 same3 k)
+written-cell k {name} {quad} {count} {a} {b} {c} {hw1} {hw2} h w = go (shiftsByRegister (field 6 3 k)) (w .packed)
+  where
+    go : (s : Bool) → choose s (same3Pair k quad (w .x) (w .z) (w .y)) (same3Pair k quad (w .x) (w .y) (w .z)) ≡ pair hw1 hw2
+        → (familyOf hw1 hw2 ≡ ThreeSame) × (same3Name hw1 hw2 ≡ cell4 same3 k)
+    go true p = pair-cell k (w .x) (w .z) (w .y) quad h (w .first .1) (w .third .1) (w .second .1) hw1 hw2 p
+    go false p = pair-cell k (w .x) (w .y) (w .z) quad h (w .first .1) (w .second .1) (w .third .1) hw1 hw2 p
 
 -- what a cell is read as
 module _ (name : String) (quad : Bool) (opc d n m address : ℕ) (filled : eqt name "" ≡ false) (single : both quad (pairwise name) ≡ false) where

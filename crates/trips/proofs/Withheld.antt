@@ -6,7 +6,7 @@ use Prim.Native.Nat.{ℕ, _<_}
 use Prim.Native.String.{String}
 use lib.Text.{eqt}
 use Rattle.laws.specs.Answer.{accepted}
-use Rattle.laws.specs.Choice.{choose, both}
+use Rattle.laws.specs.Choice.{choose}
 use Rattle.laws.proofs.Never.{wrong}
 use Rattle.laws.proofs.Range.{values, agree}
 use Rattle.laws.proofs.Tests.{sides, both-true, both-no, same-text}
@@ -21,10 +21,7 @@ use Rattle.homes.specs.Home.{homeOf}
 use Rattle.homes.specs.declared.Home.{Home}
 use Rattle.homes.specs.declared.Home.the-variants.{Same3, Shift, Vmovl, Modimm, Diff, Vmov, Nowhere}
 use Rattle.homes.proofs.Homes.{homes, listedHome, home-at}
-use Rattle.homes.proofs.Cells.{Stands, same3-stands}
-use Rattle.register_tables.specs.Same3.{same3}
-use Rattle.tables.proofs.Cells.{cell4}
-use Rattle.fields.specs.Halfwords.{field}
+use Rattle.homes.proofs.Cells.{same3-stands}
 use Rattle.fields.specs.Registers.{vecOf}
 use Rattle.readings.specs.Operands as Read
 use Rattle.readings.proofs.Parts.{operands}
@@ -33,12 +30,11 @@ use Rattle.decode.specs.Reading.{familyOf, inFamily, reading}
 use Rattle.decode.specs.Editions.{isThreeSame, isWithheld}
 use Rattle.decode.specs.declared.Family.{Family}
 use Rattle.decode.specs.declared.Family.the-variants.{ThreeSame, ThreeDifferent, Shift as shift, ModifiedImmediate, NoFamily}
-use Rattle.writings.specs.Forms.{pair, isNumber, isQuad}
-use Rattle.write_registers.specs.Same3.{same3Pair, same3Writing}
+use Rattle.writings.specs.Forms.{pair, isNumber}
 use Rattle.encode.specs.Writing.{inHome, writing}
 use Rattle.trips.specs.Spelling.{Spelling, isMove, isLongMove, movedName, renamed, canonical}
 use Rattle.trips.specs.Promises.{isFusedName}
-use Rattle.trips.proofs.RoundSame3.{Written, written, pair-cell}
+use Rattle.trips.proofs.RoundSame3.{written, written-cell}
 
 -- the names that it withholds are those of VFMA and VFMS
 fused-below : (m : ℕ) → m < 346 → isFusedName (nameOf m) ≡ withholds B (nameOf m)
@@ -82,25 +78,15 @@ written-withheld i hw1 hw2 w e = go (homeOf (nameOf m) number) refl e
     number : Bool
     number = isNumber (placeAt i 2)
 
-    of-cell : (k : ℕ) → homeOf (nameOf m) number ≡ Same3 k → (familyOf hw1 hw2 ≡ ThreeSame) × (same3Name hw1 hw2 ≡ nameOf m) → isWithheld B hw1 hw2 ≡ true
-    of-cell k h c = rw (c .1, c .0, w)
-
     elsewhere : (h : Home) → homeOf (nameOf m) number ≡ h → inSame3 h ≡ true
     elsewhere h e = sym (ap inSame3 e) ∙ in-same3 number m w
 
     go : (h : Home) → homeOf (nameOf m) number ≡ h
         → inHome h (nameOf m) (i .count) (placeAt i 0) (placeAt i 1) (placeAt i 2) ≡ accepted (pair hw1 hw2) → isWithheld B hw1 hw2 ≡ true
-    go (Same3 k) h q = by (shiftsByRegister (field 6 3 k)) (r .packed)
-      where
-        st : Stands m k 256 (cell4 same3)
-        st = same3-stands number m k h
-
-        r : Written k (nameOf m) (isQuad (placeAt i 0)) (i .count) (placeAt i 0) (placeAt i 1) (placeAt i 2) hw1 hw2
-        r = written k (nameOf m) (i .count) (placeAt i 0) (placeAt i 1) (placeAt i 2) hw1 hw2 q
-
-        by : (s : Bool) → choose s (same3Pair k (isQuad (placeAt i 0)) (r .x) (r .z) (r .y)) (same3Pair k (isQuad (placeAt i 0)) (r .x) (r .y) (r .z)) ≡ pair hw1 hw2 → isWithheld B hw1 hw2 ≡ true
-        by true p = let c = pair-cell k (r .x) (r .z) (r .y) (isQuad (placeAt i 0)) (st .within) (r .first .1) (r .third .1) (r .second .1) hw1 hw2 p in of-cell k h (c .0, c .1 ∙ st .spelled)
-        by false p = let c = pair-cell k (r .x) (r .y) (r .z) (isQuad (placeAt i 0)) (st .within) (r .first .1) (r .second .1) (r .third .1) hw1 hw2 p in of-cell k h (c .0, c .1 ∙ st .spelled)
+    go (Same3 k) h q =
+        let st = same3-stands number m k h in
+        let c = written-cell k (st .within) (written k (nameOf m) (i .count) (placeAt i 0) (placeAt i 1) (placeAt i 2) hw1 hw2 q) in
+        rw (c .1, st .spelled, c .0, w)
     go (Shift k) h q = wrong (elsewhere (Shift k) h)
     go (Vmovl k) h q = wrong (elsewhere (Vmovl k) h)
     go (Modimm k) h q = wrong (elsewhere (Modimm k) h)
