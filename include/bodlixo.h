@@ -9,11 +9,11 @@
 
     reading      1  no family of instructions has the pair
                  2  a bit that its row fixes is wrong: L of a narrowing, lengthening or conversion, or a conversion's imm6
-                 3  its cell of the table is blank, or so in the edition
+                 3  its cell of the table is blank, or blank in the edition named
                  4  a zero immediate where the row has none
                  5  a pairwise (vp..) name with quadwords; in writing too
                  6  an odd number for a quadword register
-    writing      7  no mnemonic has the number, or none of the edition
+    writing      7  no mnemonic has the number, or none in the edition named
                  8  count, kinds, registers or their lengths are not the mnemonic's
                  9  a number or float that no pair carries
     running     10  the pair has no meaning for the machine; a pair that cannot be read stops a run with its own number

@@ -18,7 +18,7 @@ extern "C" {
 
 /// The number that names edition B, and some of those that name C.
 pub const B: u32 = 1;
-pub const C: [u32; 6] = [0, 2, 3, 0x101, 0x1_0001, u32::MAX];
+pub const NUMBERS_OF_C: [u32; 6] = [0, 2, 3, 0x101, 0x1_0001, u32::MAX];
 
 pub fn read(edition: u32, hw1: u16, hw2: u16, address: u32, record: &mut Record) -> u32 {
     unsafe { bodlixo_read(edition, hw1, hw2, address, record.as_mut_ptr()) }

@@ -60,7 +60,7 @@ fn number(reading: &Reading) -> u32 {
 
 /// One of the numbers that name edition C.
 fn some_c(hw2: u16) -> u32 {
-    boundary::C[usize::from(hw2) % boundary::C.len()]
+    boundary::NUMBERS_OF_C[usize::from(hw2) % boundary::NUMBERS_OF_C.len()]
 }
 
 /// Pairs whose answer under B is another than under C, by C's answer: accepted, then 1 to 6.
@@ -96,15 +96,15 @@ fn main() -> ExitCode {
     report.expect(withheld, WITHHELD, || "the pairs that differ under B".to_string());
     let outside = outside(&mut report);
     println!(
-        "  under B {} pairs differ, those of vfma and vfms, all 3: under C {} accepted, {} refused with 6",
-        withheld.iter().sum::<u64>(),
-        withheld[0],
-        withheld[6]
-    );
-    println!(
         "read: {compared} pairs compared, {} accepted; {outside} others refused; {} disagreements",
         counts.iter().map(|row| row[0]).sum::<u64>(),
         report.disagreements
+    );
+    println!(
+        "read under B: {} pairs differ, those of vfma and vfms, all 3: under C {} accepted, {} refused with 6",
+        withheld.iter().sum::<u64>(),
+        withheld[0],
+        withheld[6]
     );
     report.status()
 }

@@ -31,7 +31,7 @@ fn measure(what: &str, pairs: &[(u16, u16)]) {
     };
     let ours = || {
         for &(hw1, hw2) in pairs {
-            black_box(boundary::read(boundary::C[0], hw1, hw2, 0x1000, &mut record));
+            black_box(boundary::read(boundary::NUMBERS_OF_C[0], hw1, hw2, 0x1000, &mut record));
         }
     };
     tell("speed_read", what, pairs.len(), beside(pairs.len(), original, ours));

@@ -44,7 +44,7 @@ fn measure(what: &str, mut records: Vec<Record>, names: &Names) {
     };
     let ours = || {
         for record in &records {
-            black_box(boundary::write(boundary::C[0], record, &mut pair));
+            black_box(boundary::write(boundary::NUMBERS_OF_C[0], record, &mut pair));
         }
     };
     tell("speed_write", what, records.len(), beside(records.len(), original, ours));

@@ -45,7 +45,7 @@ withheld-cell : (row size : ℕ) → row < 64 → size < 4 → withholds B (cell
 unfolding values same3
 withheld-cell = agree2 (λ (r c : ℕ). withholds B (cellAt same3 r c)) (λ (r c : ℕ). both (eqb r 25) (eqb (c % 2) 0)) 64 4 refl
 
--- the top nine bits of hw1 are 1 1 1 U 1 1 1 1 and the family's bit
+-- the top nine bits of hw1, cut where the family and the cell have their fields
 top-bits : (h : ℕ) → field 15 7 h ≡ field 15 13 h * 64 + bit 12 h * 32 + field 11 8 h * 2 + bit 7 h
 top-bits h =
     let whole : h / 128 ≡ h / 65536 * 512 + (field 15 13 h * 64 + bit 12 h * 32 + field 11 8 h * 2 + bit 7 h) =

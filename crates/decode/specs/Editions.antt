@@ -25,11 +25,11 @@ isThreeSame NoFamily = false
 abbrev pub isWithheld : Edition → ℕ → ℕ → Bool
 isWithheld edition hw1 hw2 = both (withholds edition (same3Name hw1 hw2)) (isThreeSame (familyOf hw1 hw2))
 
--- such a cell is blank in the edition, whatever the registers; every other pair is read as ever
+-- such a cell is blank in the edition, whatever the registers; every other pair is read as by C
 abbrev pub readingIn : Edition → ℕ → ℕ → ℕ → Answer Insn
 readingIn edition hw1 hw2 address = choose (isWithheld edition hw1 hw2) (refused 3) (reading hw1 hw2 address)
 
--- the pairs of VFMA and VFMS, by the bits that their encoding fixes; op tells the two apart
+-- the pairs of VFMA and VFMS, by the bits that their encoding fixes; op tells the two apart, and 0x1de is 1 1 1 0 1 1 1 1 0
 --   hw1  1 1 1 0 1 1 1 1 0 D op 0 Vn      hw2  Vd 1 1 0 0 N Q M 1 Vm
 abbrev pub isFused : ℕ → ℕ → Bool
 isFused hw1 hw2 =

@@ -1,4 +1,4 @@
--- The reading of a pair.
+-- The reading of a pair by edition C of the manual; Editions.antt has the others'.
 -- Assumes nothing.
 use mathlib.Core.Bool.{Bool, not}
 use Prim.Native.Nat.{ℕ}

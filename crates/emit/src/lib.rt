@@ -37,7 +37,7 @@ fn put_pair(out: &mut [u16], at: usize, hw1: u16, hw2: u16) -> usize
     at + 2
 }
 
-// Puts a record's pair.
+// Puts a record's pair, as edition C has it.
 fn put(out: &mut [u16], at: usize, i: Insn) -> usize
     requires { ⌜ at < 2 ^ 32 ⌝ }
     ensures { λ r. ⌜ Placed 2 (now (out .entry)) at (halfwordsOf (i ∷ [])) (now (out .exit)) r ⌝ }

@@ -29,7 +29,7 @@ inHome (Diff cell) name count a b c = diffWriting cell count a b c
 inHome Vmov name count a b c = vmovWriting count a b
 inHome Nowhere name count a b c = refused 7
 
--- the pair of a record, whatever its address and its mark
+-- the pair of a record by edition C of the manual, whatever its address and its mark
 unfoldable pub writing : Insn → Answer Pair
 writing i =
     inHome (homeOf (nameOf (i .mnemonic)) (isNumber (placeAt i 2))) (nameOf (i .mnemonic)) (i .count)

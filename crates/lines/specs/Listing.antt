@@ -24,7 +24,7 @@ unfoldable pub readingText : Answer Insn → List ℕ
 readingText (accepted i) = insnText i
 readingText (refused n) = codes "refused " ++ decimal n
 
--- a pair's line: its index, both halfwords, its reading, and a space (32) between them
+-- a pair's line: its index, both halfwords, its reading by edition C, and a space (32) between them
 unfoldable pub lineText : ℕ → ℕ → ℕ → List ℕ
 lineText i hw1 hw2 = decimal i ++ 32 ∷ hex4 hw1 ++ 32 ∷ hex4 hw2 ++ 32 ∷ readingText (reading hw1 hw2 0)
 

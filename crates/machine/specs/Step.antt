@@ -28,7 +28,7 @@ unfoldable pub stepRead : Answer Insn → File → Answer File
 stepRead (accepted i) file = stepInsn i file
 stepRead (refused n) file = refused n
 
--- the step that a pair is: the reading's refusal, else the record's step; the address does not matter
+-- the step that a pair is: edition C's refusal in reading, else the record's step; the address does not matter
 abbrev pub stepPair : ℕ → ℕ → File → Answer File
 stepPair hw1 hw2 file = stepRead (reading hw1 hw2 0) file
 

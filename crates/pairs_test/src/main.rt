@@ -1,6 +1,6 @@
-// Replays the readings and writings on standard input, which tools/replay made from the Rust original's answers.
-// Each line has 90 bytes: r or w, under edition B R or W, then hw1 hw2 address answer mnemonic mark count, then kind and
-// value of three places.
+// Replays the readings and writings on standard input, which tools/replay made from the Rust original's answers, with the
+// refusals of edition B. Each line has 90 bytes: r or w, under B R or W, then hw1 hw2 address answer mnemonic mark count,
+// then kind and value of three places.
 use libc::STDIN_FILENO;
 use replay::field;
 use replay::put;
@@ -64,9 +64,11 @@ fn counted(t: Tally, line: &[u8; 90]) -> Tally {
     } else if sort == b'R' {
         next.read_b[at] = next.read_b[at] % 1000000 + 1;
         reads(line, 1, hw1, hw2, answer)
-    } else {
+    } else if sort == b'W' {
         next.written_b[at] = next.written_b[at] % 1000000 + 1;
         writes(line, 1, hw1, hw2, answer)
+    } else {
+        false
     };
     if !agrees {
         next.wrong = next.wrong % 1000000 + 1;

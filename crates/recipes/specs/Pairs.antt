@@ -94,7 +94,7 @@ abbrev pub halfwords : Answer Pair → List ℕ
 halfwords (accepted (pair hw1 hw2)) = hw1 ∷ hw2 ∷ []
 halfwords (refused n) = []
 
--- the halfwords of records, as they are written
+-- the halfwords of records, as edition C has them written
 unfoldable pub halfwordsOf : List Insn → List ℕ
 halfwordsOf [] = []
 halfwordsOf (i ∷ is) = halfwords (writing i) ++ halfwordsOf is

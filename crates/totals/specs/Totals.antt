@@ -29,7 +29,7 @@ unfoldable pub readingSort : Family → Answer Insn → Sort
 readingSort f (accepted i) = familySort f
 readingSort f (refused n) = Refused
 
--- the sort of a pair
+-- the sort of a pair, read by edition C
 unfoldable pub sortOf : ℕ → ℕ → Sort
 sortOf hw1 hw2 = readingSort (familyOf hw1 hw2) (reading hw1 hw2 0)
 

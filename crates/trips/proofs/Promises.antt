@@ -5,7 +5,7 @@ use mathlib.Core.Path.{_≡_, refl, sym, _∙_}
 use Prim.Native.Nat.{ℕ, _<_}
 use native.Mathlib.Omega.{arith}
 use Rattle.laws.specs.Answer.{accepted}
-use Rattle.laws.proofs.Never.{never, wrong}
+use Rattle.laws.proofs.Never.{never}
 use Rattle.laws.proofs.Tests.{passed}
 use Rattle.insn.specs.declared.Edition.the-variants.{B, C}
 use Rattle.insn.specs.declared.Insn.{Insn}
@@ -26,7 +26,7 @@ use Rattle.decode.specs.declared.Family.the-variants.{ThreeSame, ThreeDifferent
 use Rattle.writings.specs.Forms.{pair, isNumber}
 use Rattle.trips.specs.Spelling.{Held, spelling, canonical, withMark}
 use Rattle.encode.specs.Writing.{inHome, writing}
-use Rattle.trips.specs.Promises.{ReadThenWritten, ReadsAs, WrittenThenRead, UnderC, WithheldUnderB, SameOtherwise, NeverRead}
+use Rattle.trips.specs.Promises.{ReadThenWritten, ReadsAs, WrittenThenRead, UnderC, WithheldUnderB, SameOtherwise, FusedExactly, NeverUnderB}
 use Rattle.trips.proofs.Routing.{Route, routed}
 use Rattle.trips.proofs.RoundSame3.{same3-back, same3-forth, vmov-back}
 use Rattle.trips.proofs.RoundDiff.{diff-back, diff-forth}
@@ -67,36 +67,34 @@ back i hw1 hw2 address held e = go (homeOf (nameOf (i .mnemonic)) (isNumber (pla
     go Vmov h q = vmov-back (i .mnemonic) (i .count) (placeAt i 0) (placeAt i 1) (placeAt i 2) _ hw1 hw2 address h absent q
     go Nowhere h q = never (cc)
 
--- under B what is read has no withheld name, and what is written is of no withheld cell
-allowed-name : (hw1 hw2 address : ℕ) (i : Insn) → hw1 < 65536 → hw2 < 65536 → isWithheld B hw1 hw2 ≡ false
-    → reading hw1 hw2 address ≡ accepted i → withholds B (nameOf (i .mnemonic)) ≡ false
-allowed-name hw1 hw2 address i l1 l2 free e = go (withholds B (nameOf (i .mnemonic))) refl
+-- what is read has a withheld name exactly if its cell is withheld
+read-withheld : (hw1 hw2 address : ℕ) (i : Insn) → hw1 < 65536 → hw2 < 65536 → reading hw1 hw2 address ≡ accepted i
+    → withholds B (nameOf (i .mnemonic)) ≡ isWithheld B hw1 hw2
+read-withheld hw1 hw2 address i l1 l2 e = go (withholds B (nameOf (i .mnemonic))) (isWithheld B hw1 hw2) refl refl
   where
-    go : (b : Bool) → withholds B (nameOf (i .mnemonic)) ≡ b → b ≡ false
-    go false w = refl
-    go true w = wrong (sym free ∙ written-withheld i hw1 hw2 w (forth hw1 hw2 address i (i .mark) (i .address) l1 l2 e))
-
-allowed-cell : (hw1 hw2 address : ℕ) (i : Insn) → withholds B (nameOf (i .mnemonic)) ≡ false
-    → reading hw1 hw2 address ≡ accepted i → isWithheld B hw1 hw2 ≡ false
-allowed-cell hw1 hw2 address i free e = go (isWithheld B hw1 hw2) refl
-  where
-    go : (b : Bool) → isWithheld B hw1 hw2 ≡ b → b ≡ false
-    go false w = refl
-    go true w = wrong (sym free ∙ withheld-read hw1 hw2 address i w e)
+    go : (name cell : Bool) → withholds B (nameOf (i .mnemonic)) ≡ name → isWithheld B hw1 hw2 ≡ cell → name ≡ cell
+    go true cell w c = sym (written-withheld i hw1 hw2 w (forth hw1 hw2 address i (i .mark) (i .address) l1 l2 e)) ∙ c
+    go false true w c = sym w ∙ withheld-read hw1 hw2 address i c e
+    go false false w c = refl
 
 pub readThenWritten : ReadThenWritten
 readThenWritten C hw1 hw2 address i mark other l1 l2 e = forth hw1 hw2 address i mark other l1 l2 e
 readThenWritten B hw1 hw2 address i mark other l1 l2 e =
     let p = passed (isWithheld B hw1 hw2) 3 _ i e in
-    rw (allowed-name hw1 hw2 address i l1 l2 (p .0) (p .1)) (forth hw1 hw2 address i mark other l1 l2 (p .1))
+    rw (read-withheld hw1 hw2 address i l1 l2 (p .1), p .0) (forth hw1 hw2 address i mark other l1 l2 (p .1))
 
 pub writtenThenRead : WrittenThenRead
 writtenThenRead C i hw1 hw2 address held e = back i hw1 hw2 address held e
 writtenThenRead B i hw1 hw2 address held e =
     let p = passed (withholds B (nameOf (i .mnemonic))) 7 _ (pair hw1 hw2) e in
     let r = back i hw1 hw2 address held (p .1) in
-    let free = allowed-cell hw1 hw2 address _ (canonical-kept (spelling i) (p .0)) (r .read) in
-    record { first-halfword = r .first-halfword; second-halfword = r .second-halfword; mark = r .mark; read = rw free (r .read) }
+    let cell = read-withheld hw1 hw2 address _ (r .first-halfword) (r .second-halfword) (r .read) in
+    record {
+      first-halfword = r .first-halfword;
+      second-halfword = r .second-halfword;
+      mark = r .mark;
+      read = rw (← cell, canonical-kept (spelling i) (p .0)) (r .read);
+    }
 
 pub underC : UnderC
 underC = (λ hw1 hw2 address. refl, λ i. refl)
@@ -107,7 +105,10 @@ withheldUnderB = (λ hw1 hw2 address fused. rw (fused-cell hw1 hw2, fused), λ i
 pub sameOtherwise : SameOtherwise
 sameOtherwise = (λ hw1 hw2 address free. rw (fused-cell hw1 hw2, free), λ i free. rw (← fused-name (i .mnemonic), free))
 
-pub neverRead : NeverRead
-neverRead hw1 hw2 address i l1 l2 e =
+pub fusedExactly : FusedExactly
+fusedExactly hw1 hw2 address i l1 l2 e = fused-name (i .mnemonic) ∙ read-withheld hw1 hw2 address i l1 l2 e ∙ fused-cell hw1 hw2
+
+pub neverUnderB : NeverUnderB
+neverUnderB hw1 hw2 address i l1 l2 e =
     let p = passed (isWithheld B hw1 hw2) 3 _ i e in
-    fused-name (i .mnemonic) ∙ allowed-name hw1 hw2 address i l1 l2 (p .0) (p .1)
+    fused-name (i .mnemonic) ∙ read-withheld hw1 hw2 address i l1 l2 (p .1) ∙ p .0

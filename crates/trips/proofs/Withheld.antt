@@ -1,4 +1,4 @@
--- What edition B withholds: the pairs that its names are written as, and the names that its cells are read with.
+-- The names and cells that edition B withholds: a withheld name is written into a withheld cell, which is read with it.
 -- Assumes nothing.
 use mathlib.Core.Path.{_≡_, refl, sym, ap, _∙_}
 use mathlib.Core.Bool.{Bool, true, false}
@@ -94,7 +94,7 @@ written-withheld i hw1 hw2 w e = go (homeOf (nameOf m) number) refl e
     go Vmov h q = wrong (elsewhere Vmov h)
     go Nowhere h q = wrong (elsewhere Nowhere h)
 
--- what a withheld name is not, and that its number has it
+-- a withheld name is not blank, pairwise or vorr, and is the name of its number
 pub record Plain (name : String) : Type 0 where
   pub filled : eqt name "" ≡ false
   pub single : pairwise name ≡ false
