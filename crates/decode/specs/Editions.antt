@@ -14,6 +14,7 @@ use Rattle.decode.specs.declared.Family.{Family}
 use Rattle.decode.specs.declared.Family.the-variants.{ThreeSame, ThreeDifferent, Shift, ModifiedImmediate, NoFamily}
 use Rattle.decode.specs.Reading.{familyOf, reading}
 
+-- the family whose names table A7-9 has
 abbrev pub isThreeSame : Family → Bool
 isThreeSame ThreeSame = true
 isThreeSame ThreeDifferent = false

@@ -15,6 +15,7 @@ abbrev pub withheld : Edition → List String
 withheld B = "vfma.f32" ∷ "vfms.f32" ∷ []
 withheld C = []
 
+-- whether a name is one of them
 abbrev pub withholds : Edition → String → Bool
 withholds edition name = member name (withheld edition)
 
