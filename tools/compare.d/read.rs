@@ -1,5 +1,5 @@
-//! Reading: every pair of the two spaces, and a sample of all others, held against the original; and
-//! under edition B, where the pairs of vfma and vfms alone differ.
+//! Reading: every pair of the two spaces, and a sample of all others, held against the original;
+//! and under edition B, where the pairs of vfma and vfms alone differ.
 
 mod boundary;
 
@@ -101,7 +101,8 @@ fn main() -> ExitCode {
         report.disagreements
     );
     println!(
-        "read under B: {} pairs differ, those of vfma and vfms, all 3: under C {} accepted, {} refused with 6",
+        "read under B: {} pairs differ, those of vfma and vfms, all 3: \
+         under C {} accepted, {} refused with 6",
         withheld.iter().sum::<u64>(),
         withheld[0],
         withheld[6]

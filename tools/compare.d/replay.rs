@@ -89,8 +89,8 @@ fn pairs_under_b() -> BTreeSet<Pair> {
     pairs
 }
 
-/// The records of these pairs under C, and a part of the records under C; those of vfma and vfms also
-/// with other counts and other values in their places.
+/// The records of these pairs under C, and a part of the records under C; those of vfma and vfms
+/// also with other counts and other values in their places.
 fn records_under_b(names: &Names, forms: &Forms) -> BTreeSet<Record> {
     let withheld = |record: &Record| Edition::B.withholds_record(record, names);
     let mut records = thinned(chosen_records(names, forms), withheld);

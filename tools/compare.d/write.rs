@@ -139,7 +139,8 @@ fn main() -> ExitCode {
     );
     check.report.expect(check.withheld, WITHHELD, || "the records that differ under B".to_string());
     println!(
-        "write under B: {} records differ, those of vfma and vfms, all 7: under C {} written, {} refused with 8",
+        "write under B: {} records differ, those of vfma and vfms, all 7: \
+         under C {} written, {} refused with 8",
         check.withheld.iter().sum::<u64>(),
         check.withheld[0],
         check.withheld[8]

@@ -9,9 +9,8 @@ use lib.Dec.{eqb}
 use borrow.Author.Tests.{eq-eqb, eqb-true}
 use Rattle.laws.specs.Choice.{choose, both}
 use Rattle.laws.proofs.Digits.{digit}
-use Rattle.laws.proofs.Never.{wrong}
 use Rattle.laws.proofs.Range.{values, agree2}
-use Rattle.laws.proofs.Tests.{both-true}
+use Rattle.laws.proofs.Tests.{both-true, same-tests}
 use Rattle.insn.specs.declared.Edition.the-variants.{B}
 use Rattle.editions.specs.Editions.{withholds}
 use Rattle.fields.specs.Halfwords.{bit, field}
@@ -98,12 +97,6 @@ module _ (hw1 hw2 : ℕ) where
         eq-eqb (field 11 8 hw1) 15 lower,
         eq-eqb (bit 7 hw1) 0 (omega arith),
       )
-
-same-tests : (a b : Bool) → (a ≡ true → b ≡ true) → (b ≡ true → a ≡ true) → a ≡ b
-same-tests true true f g = refl
-same-tests true false f g = wrong (f refl)
-same-tests false true f g = wrong (g refl)
-same-tests false false f g = refl
 
 -- a cell that B withholds is one of VFMA and VFMS
 pub fused-cell : (hw1 hw2 : ℕ) → isWithheld B hw1 hw2 ≡ isFused hw1 hw2

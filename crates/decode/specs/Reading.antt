@@ -1,4 +1,4 @@
--- The reading of a pair by edition C of the manual; Editions.antt has the others'.
+-- The reading of a pair by edition C of the manual; Editions.antt has it in any edition.
 -- Assumes nothing.
 use mathlib.Core.Bool.{Bool, not}
 use Prim.Native.Nat.{ℕ}

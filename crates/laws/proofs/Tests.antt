@@ -30,6 +30,13 @@ pub both-no : (b : Bool) → both b false ≡ false
 both-no true = refl
 both-no false = refl
 
+-- tests that follow from each other are the same
+pub same-tests : (a b : Bool) → (a ≡ true → b ≡ true) → (b ≡ true → a ≡ true) → a ≡ b
+same-tests true true f g = refl
+same-tests true false f g = wrong (f refl)
+same-tests false true f g = wrong (g refl)
+same-tests false false f g = refl
+
 pub not-holds : (a : Bool) → not a ≡ true → a ≡ false
 not-holds true e = wrong e
 not-holds false e = refl

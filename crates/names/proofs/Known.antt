@@ -4,11 +4,12 @@ use mathlib.Core.Path.{_≡_, refl, sym, ap, _∙_}
 use mathlib.Core.Bool.{Bool, true, false}
 use Prim.Native.Nat.{ℕ, _<_, _≤_}
 use Prim.Native.String.{String}
-use lib.Dec.{eqb, ltb}
+use lib.Dec.{eqb}
 use lib.Text.{eqt}
 use native.Mathlib.Omega.{arith}
-use borrow.Author.Tests.{ltb-true, ltb-false, ne-eqb}
+use borrow.Author.Tests.{ne-eqb}
 use Rattle.laws.proofs.Range.{values, agree}
+use Rattle.laws.proofs.Tests.{sides}
 use Rattle.names.specs.Names.{names, numberOf, nameOf}
 use Rattle.names.proofs.Promises.{numbersBack}
 use Rattle.names.proofs.Spellings.{no-name}
@@ -21,19 +22,15 @@ named = agree (λ (m : ℕ). eqt (nameOf m) "") (λ (m : ℕ). false) 346 refl
 pub unnamed : (m : ℕ) → 346 ≤ m → eqt (nameOf m) "" ≡ true
 unnamed m h = ap (λ (s : String). eqt s "") (no-name m h)
 
--- vorr is mnemonic 12, and vmov 345
-vorr-below : (m : ℕ) → m < 346 → eqb m 12 ≡ eqt (nameOf m) "vorr"
-unfolding values names nameOf
-vorr-below = agree (λ (m : ℕ). eqb m 12) (λ (m : ℕ). eqt (nameOf m) "vorr") 346 refl
+-- a test of the number and one of the name that agree at each mnemonic, and past them all, agree at every number
+pub at-every : (f : ℕ → Bool) (p : String → Bool) → values f 0 346 ≡ values (λ (m : ℕ). p (nameOf m)) 0 346
+    → ((m : ℕ) → 346 ≤ m → f m ≡ p "") → (m : ℕ) → f m ≡ p (nameOf m)
+at-every f p same past m = sides 346 m (agree f (λ (m : ℕ). p (nameOf m)) 346 same m) (λ h. past m h ∙ ap p (sym (no-name m h)))
 
+-- vorr is mnemonic 12, and vmov 345
 pub is-vorr : (m : ℕ) → eqb m 12 ≡ eqt (nameOf m) "vorr"
-is-vorr m = go (ltb m 346) refl
-  where
-    go : (b : Bool) → ltb m 346 ≡ b → eqb m 12 ≡ eqt (nameOf m) "vorr"
-    go true e = vorr-below m (ltb-true m 346 e)
-    go false e =
-        let h = ltb-false m 346 e in
-        ne-eqb m 12 (λ k. omega arith) ∙ sym (ap (λ (s : String). eqt s "vorr") (no-name m h))
+unfolding values names nameOf
+is-vorr = at-every (λ (m : ℕ). eqb m 12) (λ (s : String). eqt s "vorr") refl (λ m h. ne-eqb m 12 (λ k. omega arith))
 
 pub vmov-number : numberOf "vmov" ≡ 345
 unfolding names numberOf

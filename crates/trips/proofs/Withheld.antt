@@ -2,19 +2,20 @@
 -- Assumes nothing.
 use mathlib.Core.Path.{_≡_, refl, sym, ap, _∙_}
 use mathlib.Core.Bool.{Bool, true, false}
-use Prim.Native.Nat.{ℕ, _<_}
+use Prim.Native.Nat.{ℕ}
 use Prim.Native.String.{String}
 use lib.Text.{eqt}
 use Rattle.laws.specs.Answer.{accepted}
 use Rattle.laws.specs.Choice.{choose}
 use Rattle.laws.proofs.Never.{wrong}
-use Rattle.laws.proofs.Range.{values, agree}
-use Rattle.laws.proofs.Tests.{sides, both-true, both-no, same-text}
+use Rattle.laws.proofs.Range.{values}
+use Rattle.laws.proofs.Tests.{both-true, both-no, same-text}
 use Rattle.insn.specs.declared.Edition.the-variants.{B}
 use Rattle.insn.specs.declared.Insn.{Insn}
 use Rattle.insn.specs.declared.Mark.the-variants.{T1}
 use Rattle.insn.specs.Record.{placeAt}
 use Rattle.names.specs.Names.{names, nameOf, numberOf, pairwise}
+use Rattle.names.proofs.Known.{at-every}
 use Rattle.names.proofs.Spellings.{no-name}
 use Rattle.editions.specs.Editions.{withholds}
 use Rattle.homes.specs.Home.{homeOf}
@@ -37,12 +38,9 @@ use Rattle.trips.specs.Promises.{isFusedName}
 use Rattle.trips.proofs.RoundSame3.{written, written-cell}
 
 -- the names that it withholds are those of VFMA and VFMS
-fused-below : (m : ℕ) → m < 346 → isFusedName (nameOf m) ≡ withholds B (nameOf m)
-unfolding values names nameOf
-fused-below = agree (λ (m : ℕ). isFusedName (nameOf m)) (λ (m : ℕ). withholds B (nameOf m)) 346 refl
-
 pub fused-name : (m : ℕ) → isFusedName (nameOf m) ≡ withholds B (nameOf m)
-fused-name m = sides 346 m (fused-below m) (λ h. rw (no-name m h))
+unfolding values names nameOf
+fused-name = at-every (λ (m : ℕ). isFusedName (nameOf m)) (withholds B) refl (λ m h. ap isFusedName (no-name m h))
 
 -- they are at home in table A7-9
 abbrev inSame3 : Home → Bool
@@ -57,15 +55,13 @@ inSame3 Nowhere = false
 abbrev housed : Bool → ℕ → Bool
 housed number m = choose (withholds B (nameOf m)) (inSame3 (listedHome number m)) true
 
-housed-below : (number : Bool) (m : ℕ) → m < 346 → housed number m ≡ true
+all-housed : (number : Bool) (m : ℕ) → housed number m ≡ true
 unfolding values names nameOf homes
-housed-below true = agree (housed true) (λ (m : ℕ). true) 346 refl
-housed-below false = agree (housed false) (λ (m : ℕ). true) 346 refl
+all-housed true = at-every (housed true) (λ (s : String). true) refl (λ m h. rw (no-name m h))
+all-housed false = at-every (housed false) (λ (s : String). true) refl (λ m h. rw (no-name m h))
 
 in-same3 : (number : Bool) (m : ℕ) → withholds B (nameOf m) ≡ true → inSame3 (homeOf (nameOf m) number) ≡ true
-in-same3 number m w =
-    ap inSame3 (home-at number m)
-    ∙ sides 346 m (λ h. rw w at (housed-below number m h)) (λ h. wrong (ap (withholds B) (sym (no-name m h)) ∙ w))
+in-same3 number m w = ap inSame3 (home-at number m) ∙ rw w at (all-housed number m)
 
 -- so the pair of a withheld name is of a withheld cell
 pub written-withheld : (i : Insn) (hw1 hw2 : ℕ) → withholds B (nameOf (i .mnemonic)) ≡ true → writing i ≡ accepted (pair hw1 hw2) → isWithheld B hw1 hw2 ≡ true
@@ -138,19 +134,12 @@ withheld-read hw1 hw2 address i w e =
     rw (named, p .back) (t .0)
 
 -- and neither of the two spellings is a withheld name
-moved-kept : (name : String) → withholds B (nameOf (numberOf (movedName name))) ≡ false
-unfolding names nameOf numberOf
-moved-kept name =
-    go (eqt name "vshll.s8") (eqt name "vshll.s16") (eqt name "vshll.s32") (eqt name "vshll.u8") (eqt name "vshll.u16") (eqt name "vshll.u32")
-  where
-    go : (a b c d e f : Bool) → withholds B (nameOf (numberOf (choose a "vmovl.s8" (choose b "vmovl.s16" (choose c "vmovl.s32" (choose d "vmovl.u8" (choose e "vmovl.u16" (choose f "vmovl.u32" "")))))))) ≡ false
-    go true b c d e f = refl
-    go false true c d e f = refl
-    go false false true d e f = refl
-    go false false false true e f = refl
-    go false false false false true f = refl
-    go false false false false false true = refl
-    go false false false false false false = refl
+abbrev keptName : String → Bool
+keptName name = withholds B (nameOf (numberOf (movedName name)))
+
+moved-kept : (m : ℕ) → keptName (nameOf m) ≡ false
+unfolding values names nameOf numberOf
+moved-kept = at-every (λ (m : ℕ). keptName (nameOf m)) (λ (s : String). false) refl (λ m h. ap keptName (no-name m h))
 
 vmov-kept : withholds B (nameOf (numberOf "vmov")) ≡ false
 unfolding names nameOf numberOf
@@ -162,5 +151,5 @@ canonical-kept s h = go (isMove s) (isLongMove s)
   where
     go : (a b : Bool) → withholds B (nameOf (choose a (renamed "vmov" s) (choose b (renamed (movedName (nameOf (s .mnemonic))) s) s) .mnemonic)) ≡ false
     go true b = vmov-kept
-    go false true = moved-kept (nameOf (s .mnemonic))
+    go false true = moved-kept (s .mnemonic)
     go false false = h

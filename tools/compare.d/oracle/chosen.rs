@@ -172,7 +172,8 @@ fn bytes(sample: &mut BTreeSet<Pair>) {
     }
 }
 
-/// vfma and vfms, D and Q, with each of the register numbers in every field, and with one bit changed.
+/// vfma and vfms, D and Q, with each of the register numbers in every field, and with one bit
+/// changed.
 pub fn fused() -> BTreeSet<Pair> {
     let mut sample = BTreeSet::new();
     for (size, q) in [(0, 0), (0, 1), (2, 0), (2, 1)] {
