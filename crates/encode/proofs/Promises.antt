@@ -1,11 +1,10 @@
 -- The promise of specs/Promises.antt.
 -- Assumes nothing.
 use mathlib.Core.Path.{_≡_, refl, sym, ap, _∙_}
-use mathlib.Core.Bool.{Bool, true, false, not}
+use mathlib.Core.Bool.{true, false}
 use Prim.Native.Nat.{ℕ, _+_, _*_, _<_}
 use native.Mathlib.Omega.{arith}
 use lib.Arith.{digits-div}
-use lib.Dec.{ltb}
 use lib.IntN.{ℤ}
 use lib.ListN.{getD}
 use lib.Text.{eqt}
@@ -15,7 +14,7 @@ use Rattle.laws.proofs.Never.{wrong}
 use Rattle.laws.proofs.Tests.{sides}
 use Rattle.insn.specs.Record.{placeAt}
 use Rattle.insn.specs.declared.Operand.{Operand}
-use Rattle.insn.specs.declared.Operand.the-variants.{D, Q, S, Imm, Float as Real, Other, Absent}
+use Rattle.insn.specs.declared.Operand.the-variants.{Imm}
 use Rattle.names.specs.Names.{nameOf}
 use Rattle.names.proofs.Known.{unnamed, number-of}
 use Rattle.tables.specs.Cells.{cellAt}
@@ -28,38 +27,15 @@ use Rattle.homes.specs.Home.{homeOf}
 use Rattle.homes.specs.declared.Home.the-variants.{Shift}
 use Rattle.homes.proofs.Cells.{firstCell, classAt, first-class, shift-home}
 use Rattle.fields.specs.Halfwords.{field}
-use Rattle.fields.specs.Registers.{bits, vecBits}
-use Rattle.writings.specs.Forms.{Pair, Three, isQuad, ofLength, registerIn, allThree}
+use Rattle.writings.specs.Forms.{Pair, Three, isQuad, allThree}
+use Rattle.writings.proofs.Unfit.{Eight, register-eight}
 use Rattle.amount_values.specs.Range.{isOutside}
 use Rattle.amount_values.proofs.Amounts.{outside-nine}
 use Rattle.write_immediates.specs.Shift.{shiftForm, shiftClassed}
 use Rattle.encode.specs.Writing.{writing}
 use Rattle.encode.specs.Promises.{isAccepted, registersFit, OutsideRefused}
 
--- where a register is refused, it is with 8
-abbrev Eight : Answer ℕ → Type 0
-Eight (accepted d) = Unit {0}
-Eight (refused n) = n ≡ 8
-
-sized : (quad b q : Bool) (d : ℕ) → Eight (ofLength quad (choose b (accepted (bits q d)) (refused 8)))
-sized quad true q d = go (choose quad q (not q))
-  where
-    go : (b : Bool) → Eight (choose b (accepted d) (refused 8))
-    go true = tt
-    go false = refl
-sized quad false q d = refl
-
-register-eight : (quad : Bool) (o : Operand) → Eight (registerIn quad o)
-unfolding registerIn vecBits
-register-eight quad (D n) = sized quad (ltb n 32) false n
-register-eight quad (Q n) = sized quad (ltb n 16) true (2 * n)
-register-eight quad (S n) = refl
-register-eight quad (Imm v) = refl
-register-eight quad (Real x) = refl
-register-eight quad Other = refl
-register-eight quad Absent = refl
-
--- so, with an amount that is refused with 9, all three are refused with 9 where the registers fit, else with 8
+-- with an amount that is refused with 9, all three are refused with 9 where the registers fit, else with 8
 all-refused : (x y : Answer ℕ) (f : Three → Answer Pair) → Eight x → Eight y → andThen (allThree x y (refused 9)) f ≡ refused (choose (both (isAccepted x) (isAccepted y)) 9 8)
 unfolding allThree
 all-refused (accepted a) (accepted b) f ex ey = refl

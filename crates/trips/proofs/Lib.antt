@@ -1,5 +1,9 @@
+pub mod Alike
+pub mod ByValue
 pub mod Canonical
 pub mod Held
+pub mod Nines
+pub mod Placed
 pub mod Promises
 pub mod Registers
 pub mod RoundDiff
@@ -9,4 +13,7 @@ pub mod RoundShift
 pub mod Routing
 pub mod ShiftForth
 pub mod ShiftRows
+pub mod Spelt
+pub mod Values
 pub mod Withheld
+pub mod Writable

@@ -33,7 +33,7 @@ use Rattle.trips.proofs.RoundDiff.{diff-back, diff-forth}
 use Rattle.trips.proofs.RoundShift.{shift-back, vmovl-back}
 use Rattle.trips.proofs.ShiftForth.{shift-forth}
 use Rattle.trips.proofs.RoundModimm.{modimm-back, modimm-forth}
-use Rattle.trips.proofs.Withheld.{fused-name, written-withheld, withheld-read, canonical-kept}
+use Rattle.trips.proofs.Withheld.{fused-name, written-withheld, withheld-read, canonical-withheld}
 
 -- the round trips under C, where a pair is read by its family and a record written where its name is at home
 forth : (hw1 hw2 address : ℕ) (i : Insn) (mark : Mark) (other : ℕ) → hw1 < 65536 → hw2 < 65536
@@ -93,7 +93,7 @@ writtenThenRead B i hw1 hw2 address held e =
       first-halfword = r .first-halfword;
       second-halfword = r .second-halfword;
       mark = r .mark;
-      read = rw (← cell, canonical-kept (spelling i) (p .0)) (r .read);
+      read = rw (← cell, canonical-withheld (spelling i) ∙ p .0) (r .read);
     }
 
 pub underC : UnderC

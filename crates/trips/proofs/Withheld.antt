@@ -1,15 +1,16 @@
 -- The names and cells that edition B withholds: a withheld name is written into a withheld cell, which is read with it.
 -- Assumes nothing.
 use mathlib.Core.Path.{_≡_, refl, sym, ap, _∙_}
-use mathlib.Core.Bool.{Bool, true, false}
+use mathlib.Core.Bool.{Bool, true, false, not}
 use Prim.Native.Nat.{ℕ}
 use Prim.Native.String.{String}
+use lib.Dec.{eqb}
 use lib.Text.{eqt}
 use Rattle.laws.specs.Answer.{accepted}
 use Rattle.laws.specs.Choice.{choose}
 use Rattle.laws.proofs.Never.{wrong}
 use Rattle.laws.proofs.Range.{values}
-use Rattle.laws.proofs.Tests.{both-true, both-no, same-text}
+use Rattle.laws.proofs.Tests.{both-true, both-no, not-holds, same-text}
 use Rattle.insn.specs.declared.Edition.the-variants.{B}
 use Rattle.insn.specs.declared.Insn.{Insn}
 use Rattle.insn.specs.declared.Mark.the-variants.{T1}
@@ -133,23 +134,33 @@ withheld-read hw1 hw2 address i w e =
     let named = cell-read (same3Name hw1 hw2) _ _ _ _ _ address i p (rw (three-same (familyOf hw1 hw2) (t .1)) at e) in
     rw (named, p .back) (t .0)
 
--- and neither of the two spellings is a withheld name
-abbrev keptName : String → Bool
-keptName name = withholds B (nameOf (numberOf (movedName name)))
+-- and a name that is read as another is withheld exactly if the other is: neither is
+abbrev movedWithheld : String → Bool
+movedWithheld name = choose (eqt (movedName name) "") (withholds B name) (withholds B (nameOf (numberOf (movedName name))))
 
-moved-kept : (m : ℕ) → keptName (nameOf m) ≡ false
+moved-withheld : (m : ℕ) → movedWithheld (nameOf m) ≡ withholds B (nameOf m)
 unfolding values names nameOf numberOf
-moved-kept = at-every (λ (m : ℕ). keptName (nameOf m)) (λ (s : String). false) refl (λ m h. ap keptName (no-name m h))
+moved-withheld = at-every (λ (m : ℕ). movedWithheld (nameOf m)) (withholds B) refl (λ m h. ap movedWithheld (no-name m h))
 
 vmov-kept : withholds B (nameOf (numberOf "vmov")) ≡ false
 unfolding names nameOf numberOf
 vmov-kept = refl
 
-pub canonical-kept : (s : Spelling) → withholds B (nameOf (s .mnemonic)) ≡ false → withholds B (nameOf (canonical s .mnemonic)) ≡ false
+pub canonical-withheld : (s : Spelling) → withholds B (nameOf (canonical s .mnemonic)) ≡ withholds B (nameOf (s .mnemonic))
 unfolding canonical
-canonical-kept s h = go (isMove s) (isLongMove s)
+canonical-withheld s = go (isMove s) (isLongMove s) refl refl
   where
-    go : (a b : Bool) → withholds B (nameOf (choose a (renamed "vmov" s) (choose b (renamed (movedName (nameOf (s .mnemonic))) s) s) .mnemonic)) ≡ false
-    go true b = vmov-kept
-    go false true = moved-kept (s .mnemonic)
-    go false false = h
+    name : String
+    name = nameOf (s .mnemonic)
+
+    go : (move long : Bool) → isMove s ≡ move → isLongMove s ≡ long
+        → withholds B (nameOf (choose move (renamed "vmov" s) (choose long (renamed (movedName name) s) s) .mnemonic)) ≡ withholds B name
+    go true long em el =
+        let t = both-true (eqb (s .count) 3) _ em in
+        let vorr = same-text name "vorr" (both-true (eqt name "vorr") _ (t .1) .0) in
+        vmov-kept ∙ ap (withholds B) (sym vorr)
+    go false true em el =
+        let t = both-true (eqb (s .count) 3) _ el in
+        let other = not-holds (eqt (movedName name) "") (both-true (not (eqt (movedName name) "")) _ (t .1) .0) in
+        rw other at (moved-withheld (s .mnemonic))
+    go false false em el = refl

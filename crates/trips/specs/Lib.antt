@@ -1,3 +1,4 @@
 pub mod Spelling
 pub mod Calls
 pub mod Promises
+pub mod Writable

@@ -1,3 +1,4 @@
 pub mod Pairs
 pub mod Promises
+pub mod Unfit
 pub mod Tests
