@@ -1,6 +1,6 @@
 -- A mnemonic's home has its name, and a cell's name has that cell for its home: antt computes both, at each mnemonic and at each cell.
 -- Assumes nothing.
-use mathlib.Core.Path.{_≡_, refl, _∙_}
+use mathlib.Core.Path.{_≡_, refl, ap, _∙_}
 use mathlib.Core.Bool.{Bool, true, false}
 use mathlib.Core.List.{[], _∷_}
 use Prim.Native.Nat.{ℕ, _+_, _*_, _/_, _%_, _<_}
@@ -13,6 +13,7 @@ use Rattle.laws.specs.Choice.{choose, both}
 use Rattle.laws.proofs.Range.{values, agree}
 use Rattle.laws.proofs.Never.{never}
 use Rattle.names.specs.Names.{names, nameOf, numberOf}
+use Rattle.names.proofs.Known.{named}
 use Rattle.register_tables.specs.Same3.{same3}
 use Rattle.immediate_tables.specs.Shift.{shiftRows, shiftCells, shiftClasses, vmovl}
 use Rattle.immediate_tables.specs.Modimm.{modimm}
@@ -45,6 +46,10 @@ pub record Stands (m k limit : ℕ) (cell : ℕ → String) : Type 0 where
   pub known : m < 346
   pub within : k < limit
   pub spelled : cell k ≡ nameOf m
+
+-- so the cell is not blank
+pub filled : {m k limit : ℕ} {cell : ℕ → String} → Stands m k limit cell → eqt (cell k) "" ≡ false
+filled {m} s = ap (λ (t : String). eqt t "") (s .spelled) ∙ named m (s .known)
 
 module _ (number : Bool) (m : ℕ) where
   -- a mnemonic with a home has a number below 346, and the home is right

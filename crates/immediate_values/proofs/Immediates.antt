@@ -25,7 +25,7 @@ use Rattle.immediate_tables.specs.Modimm.{modimm}
 use Rattle.names.specs.Names.{names, nameOf, numberOf}
 use Rattle.homes.specs.declared.Home.the-variants.{Modimm}
 use Rattle.tables.proofs.Cells.{cell16}
-use Rattle.homes.proofs.Cells.{firstRow, Stands, modimm-stands, modimm-home}
+use Rattle.homes.proofs.Cells.{firstRow, Stands, filled, modimm-stands, modimm-home}
 use Rattle.names.proofs.Known.{named}
 use Rattle.names.proofs.Promises.{numbersBack}
 use Rattle.fields.specs.Halfwords.{bit, field}
@@ -154,8 +154,8 @@ module _ (m cell : ℕ) (home : homeOf (nameOf m) false ≡ Modimm cell) where
   pub first-of : (r : ℕ) → r < 32 → cell16 modimm r ≡ nameOf m → firstRow r ≡ cell
   first-of r h e =
       let number : numberOf (cell16 modimm r) ≡ m = ap numberOf e ∙ numbersBack m (stands .known) in
-      let filled : eqt (cell16 modimm r) "" ≡ false = ap (λ (s : String). eqt s "") e ∙ named m (stands .known) in
-      let here : homeOf (nameOf m) false ≡ Modimm (firstRow r) = rw number at (modimm-home false r h filled) in
+      let row : eqt (cell16 modimm r) "" ≡ false = ap (λ (s : String). eqt s "") e ∙ named m (stands .known) in
+      let here : homeOf (nameOf m) false ≡ Modimm (firstRow r) = rw number at (modimm-home false r h row) in
       cc (sym here ∙ home)
 
   pub only-number : (v : ℤ) → OnlyPlace (nameOf m) (Imm v) (guess cell (modulo 64 v))
@@ -168,9 +168,8 @@ pub plain-home : (number : Bool) (m cell : ℕ) → homeOf (nameOf m) number ≡
 plain-home number m cell e =
     let s = modimm-stands number m cell e in
     let here : numberOf (cell16 modimm cell) ≡ m = ap numberOf (s .spelled) ∙ numbersBack m (s .known) in
-    let filled : eqt (cell16 modimm cell) "" ≡ false = ap (λ (t : String). eqt t "") (s .spelled) ∙ named m (s .known) in
-    let first : firstRow cell ≡ cell = cc (sym (rw here at (modimm-home number cell (s .within) filled)) ∙ e) in
-    rw (here, first) at (modimm-home false cell (s .within) filled)
+    let first : firstRow cell ≡ cell = cc (sym (rw here at (modimm-home number cell (s .within) (filled s))) ∙ e) in
+    rw (here, first) at (modimm-home false cell (s .within) (filled s))
 
 -- a first row leaves room for the formula's offset
 abbrev roomy : ℕ → Bool
@@ -218,8 +217,7 @@ pub only-candidate : (m cell p r : ℕ) → homeOf (nameOf m) false ≡ Modimm c
 only-candidate m cell p r home h e =
     let s = stands m cell home in
     let first : firstRow cell ≡ cell = first-of m cell home cell (s .within) (s .spelled) in
-    let filled : eqt (cell16 modimm cell) "" ≡ false = ap (λ (t : String). eqt t "") (s .spelled) ∙ named m (s .known) in
-    let roomly = rw (eq-eqb (firstRow cell) cell first, filled) at (room cell (s .within)) in (
+    let roomly = rw (eq-eqb (firstRow cell) cell first, filled s) at (room cell (s .within)) in (
       rw e (guess-small cell p (s .within) roomly),
       rw e (rw (bitsBack 64 p h) at (only-number m cell home (twosComplement 64 p))),
     )

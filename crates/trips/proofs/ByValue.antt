@@ -21,7 +21,7 @@ use Rattle.immediate_tables.specs.Shift.{vmovl}
 use Rattle.homes.specs.Home.{homeOf}
 use Rattle.homes.specs.declared.Home.{Home}
 use Rattle.homes.specs.declared.Home.the-variants.{Same3, Shift, Vmovl, Modimm, Diff, Vmov, Nowhere}
-use Rattle.homes.proofs.Cells.{classAt, vmovl-stands}
+use Rattle.homes.proofs.Cells.{filled, classAt, vmovl-stands}
 use Rattle.fields.specs.Halfwords.{field}
 use Rattle.writings.specs.Forms.{Pair, isQuad, registerIn, Three, allThree, numbers}
 use Rattle.writings.proofs.Unfit.{Eight, register-eight}
@@ -34,7 +34,7 @@ use Rattle.write_immediates.specs.Modimm.{modimmPair, modimmForm, modimmWriting
 use Rattle.encode.specs.Writing.{inHome}
 use Rattle.trips.proofs.Alike.{Alike, alike-quad, alike-register}
 use Rattle.trips.proofs.Values.{isRefusal}
-use Rattle.trips.proofs.Placed.{filled, zero-amount}
+use Rattle.trips.proofs.Placed.{zero-amount}
 
 -- THE VALUE AND THE FORM
 
@@ -200,7 +200,7 @@ through m number (Same3 k) e count a b c =
 through m number (Shift k) e count a b c = shifted-through k count a b
 through m number (Vmovl k) e count a b c =
     let st = vmovl-stands number m k e in
-    regardless (vmovlWriting k count a b) (vmovl-plain k count a b (st .within) (filled m k 8 (cell4 vmovl) st)) (λ value. refl)
+    regardless (vmovlWriting k count a b) (vmovl-plain k count a b (st .within) (filled st)) (λ value. refl)
 through m number (Modimm k) e count a b c = modimm-through (eqb count 2) (isQuad a) (registerIn (isQuad a) a) (register-eight (isQuad a) a)
 through m number (Diff k) e count a b c =
     regardless (diffWriting k count a b c) (diff-plain (getD diffShapes (k / 4) longShape) k count a b c) (λ value. refl)

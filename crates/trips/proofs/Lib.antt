@@ -17,3 +17,4 @@ pub mod Spelt
 pub mod Values
 pub mod Withheld
 pub mod Writable
+pub mod WrongWriters

@@ -1,6 +1,6 @@
 -- 9 is for a value alone, and where it is given another value has a place.
 -- Assumes nothing.
-use mathlib.Core.Path.{_≡_, refl, _∙_}
+use mathlib.Core.Path.{_≡_, refl}
 use mathlib.Core.Bool.{Bool, false}
 use Prim.Native.Nat.{ℕ, _+_, _*_}
 use Prim.Native.String.{String}
@@ -12,13 +12,10 @@ use Rattle.laws.proofs.Never.{never}
 use Rattle.insn.specs.declared.Operand.{Operand}
 use Rattle.insn.specs.declared.Operand.the-variants.{Imm, Float}
 use Rattle.names.specs.Names.{nameOf}
-use Rattle.tables.proofs.Cells.{cell4, cell16}
-use Rattle.immediate_tables.specs.Shift.{shiftCells}
-use Rattle.immediate_tables.specs.Modimm.{modimm}
 use Rattle.homes.specs.Home.{homeOf}
 use Rattle.homes.specs.declared.Home.{Home}
 use Rattle.homes.specs.declared.Home.the-variants.{Same3, Shift, Vmovl, Modimm, Diff, Vmov, Nowhere}
-use Rattle.homes.proofs.Cells.{classAt, shift-stands, modimm-stands}
+use Rattle.homes.proofs.Cells.{filled, classAt, shift-stands, modimm-stands}
 use Rattle.fields.specs.Halfwords.{bit, field}
 use Rattle.writings.specs.Numbers.{orNine}
 use Rattle.amount_values.specs.Amounts.{amountReads, amountIn}
@@ -26,7 +23,7 @@ use Rattle.immediate_values.specs.Immediates.{immediateReads, immediateOf, imme
 use Rattle.trips.specs.Writable.{AnotherValue}
 use Rattle.trips.proofs.Alike.{Alike}
 use Rattle.trips.proofs.Values.{NineAlone, found-or-nine, nine-alone, another}
-use Rattle.trips.proofs.Placed.{filled, one-amount, one, one-held, one-immediate}
+use Rattle.trips.proofs.Placed.{one-amount, one, one-held, one-immediate}
 use Rattle.trips.proofs.ByValue.{valueIn}
 
 -- the tests of an amount, and of an immediate
@@ -64,15 +61,14 @@ unfolding amountIn immediateIn
 mended m number (Same3 k) e b c r = never (cc)
 mended m number (Shift k) e b c r =
     let st = shift-stands number m k e in
-    let t = one-amount k (st .within) (filled m k 256 (cell4 shiftCells) st) in
+    let t = one-amount k (st .within) (filled st) in
     by-third (Imm (pos 1)) (another (amountBy k) (λ x. refused 9) false c (Imm (pos 1)) (t .0) refl r (t .1)) (t .0) (t .1)
 mended m number (Vmovl k) e b c r = never (cc)
 mended m number (Modimm k) e b c r =
     let st = modimm-stands number m k e in
-    let full = filled m k 32 (cell16 modimm) st in
-    let t = one-immediate m k st full in
+    let t = one-immediate m k st in
     by-second (one k)
-    (another (λ v. immediateOf (nameOf m) (Imm v)) (λ x. immediateOf (nameOf m) (Float x)) (eqt (nameOf m) "vmov.f32") b (one k) (k * 256 + 1) (one-held k (st .within) full) r t)
+    (another (λ v. immediateOf (nameOf m) (Imm v)) (λ x. immediateOf (nameOf m) (Float x)) (eqt (nameOf m) "vmov.f32") b (one k) (k * 256 + 1) (one-held k (st .within) (filled st)) r t)
     (k * 256 + 1) t
 mended m number (Diff k) e b c r = never (cc)
 mended m number Vmov e b c r = never (cc)

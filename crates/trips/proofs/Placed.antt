@@ -3,7 +3,6 @@
 use mathlib.Core.Path.{_≡_, refl, sym, ap, _∙_}
 use mathlib.Core.Bool.{Bool, true, false}
 use Prim.Native.Nat.{ℕ, _+_, _*_, _/_, _%_, _<_}
-use Prim.Native.String.{String}
 use native.Mathlib.Omega.{arith}
 use lib.Ieee.{fits}
 use lib.IntN.{pos}
@@ -17,12 +16,11 @@ use Rattle.laws.proofs.Never.{wrong}
 use Rattle.insn.specs.declared.Operand.{Operand}
 use Rattle.insn.specs.declared.Operand.the-variants.{Imm}
 use Rattle.names.specs.Names.{nameOf, numberOf}
-use Rattle.names.proofs.Known.{named}
 use Rattle.names.proofs.Promises.{numbersBack}
 use Rattle.tables.proofs.Cells.{cell4, cell16}
 use Rattle.immediate_tables.specs.Shift.{shiftRows, shiftCells, shiftClasses, vmovl}
 use Rattle.immediate_tables.specs.Modimm.{modimm}
-use Rattle.homes.proofs.Cells.{Stands, classAt}
+use Rattle.homes.proofs.Cells.{Stands, filled, classAt}
 use Rattle.fields.specs.Halfwords.{field}
 use Rattle.floats.specs.Floats.{floatOf}
 use Rattle.immediates.specs.Modified.{constantAt, element, operandIn}
@@ -34,10 +32,6 @@ use Rattle.immediate_values.proofs.Immediates.{op, cmode, imm8}
 use Rattle.write_immediates.specs.Shift.{vshllCell}
 use Rattle.trips.proofs.RoundModimm.{place-again}
 use Rattle.trips.proofs.Values.{isHeld}
-
--- a cell where a mnemonic is at home is not blank
-pub filled : (m k limit : ℕ) (cell : ℕ → String) → Stands m k limit cell → eqt (cell k) "" ≡ false
-filled m k limit cell st = ap (λ (s : String). eqt s "") (st .spelled) ∙ named m (st .known)
 
 -- AMOUNTS: 1 has a place in every column that is not blank, and 0 in every one of VMOVL
 
@@ -79,8 +73,8 @@ pub one-held : (k : ℕ) → k < 32 → eqt (cell16 modimm k) "" ≡ false → i
 unfolding values modimm constantAt operandIn element twosComplement floatOf fits
 one-held k h e = rw e at (agree (λ (k : ℕ). choose (eqt (cell16 modimm k) "") true (isHeld (one k))) (λ (k : ℕ). true) 32 refl k h)
 
-pub one-immediate : (m k : ℕ) → Stands m k 32 (cell16 modimm) → eqt (cell16 modimm k) "" ≡ false → immediateIn (nameOf m) (one k) ≡ accepted (k * 256 + 1)
-one-immediate m k st filled =
+pub one-immediate : (m k : ℕ) → Stands m k 32 (cell16 modimm) → immediateIn (nameOf m) (one k) ≡ accepted (k * 256 + 1)
+one-immediate m k st =
     let t = k * 256 + 1 in
     let h = st .within in
     let row : t / 256 ≡ k = omega arith in
@@ -88,4 +82,4 @@ one-immediate m k st filled =
     let its-cmode : cmode t ≡ k % 16 = omega arith in
     let its-imm8 : imm8 t ≡ 1 = omega arith in
     let name : nameOf (numberOf (cell16 modimm (t / 256))) ≡ nameOf m = ap nameOf (ap (λ (r : ℕ). numberOf (cell16 modimm r)) row ∙ ap numberOf (st .spelled) ∙ numbersBack m (st .known)) in
-    rw (name, its-op, its-cmode, its-imm8) at (place-again t (omega arith) (rw row filled) (rw its-imm8))
+    rw (name, its-op, its-cmode, its-imm8) at (place-again t (omega arith) (rw row (filled st)) (rw its-imm8))

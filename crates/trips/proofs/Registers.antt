@@ -12,7 +12,6 @@ use Rattle.insn.specs.declared.Operand.{Operand}
 use Rattle.insn.specs.declared.Operand.the-variants.{D, Q}
 use Rattle.fields.specs.Registers.{Bits, bits, vecOf, vecBits}
 use Rattle.fields.proofs.Promises.{bitsOfVec, vecOfBits}
-use Rattle.readings.specs.Operands as Read
 use Rattle.writings.specs.Forms.{isQuad, isNumber, ofLength, registerIn, allThree, numbers}
 use Rattle.trips.specs.Spelling.{sameBits, sameRegister, isZero}
 use Rattle.laws.proofs.Tests.{both-true}

@@ -26,8 +26,7 @@ use Rattle.tables.specs.declared.ShiftClass.{ShiftClass}
 use Rattle.tables.specs.declared.ShiftClass.the-variants.{Right, Long}
 use Rattle.homes.specs.declared.Home.the-variants.{Shift, Vmovl}
 use Rattle.tables.proofs.Cells.{cell4}
-use Rattle.homes.proofs.Cells.{Stands, classAt, shift-stands, vmovl-stands}
-use Rattle.names.proofs.Known.{named}
+use Rattle.homes.proofs.Cells.{Stands, filled, classAt, shift-stands, vmovl-stands}
 use Rattle.names.proofs.Promises.{numbersBack}
 use Rattle.laws.proofs.Search.{hit}
 use Rattle.laws.proofs.Never.{never}
@@ -204,16 +203,13 @@ module _ (k count : ℕ) (a b c : Operand) (hw1 hw2 address : ℕ) (hk : k < 256
 pub shift-back : (m k count : ℕ) (a b c : Operand) (number : Bool) (hw1 hw2 address : ℕ) → homeOf (nameOf m) number ≡ Shift k
     → shiftWriting k count a b c ≡ accepted (pair hw1 hw2) → ReadsAs C hw1 hw2 address (canonical (spelt m count a b c))
 shift-back m k count a b c number hw1 hw2 address home e =
-    go (isLong (classAt k)) (eqb (n k count a b c hw1 hw2 address (st .within) filled w) 0) refl refl
+    go (isLong (classAt k)) (eqb (n k count a b c hw1 hw2 address (st .within) (filled st) w) 0) refl refl
   where
     w : Written (classAt k) k (isQuad a) count a b c hw1 hw2
     w = written (classAt k) k count a b c hw1 hw2 e
 
     st : Stands m k 256 (cell4 shiftCells)
     st = shift-stands number m k home
-
-    filled : eqt (cell4 shiftCells k) "" ≡ false
-    filled = rw (st .spelled) (named m (st .known))
 
     vorr : both (eqt (nameOf m) "vorr") (sameRegister b c) ≡ false
     vorr = rw (rw (st .spelled) at (no-vorr k (st .within)))
@@ -224,33 +220,33 @@ shift-back m k count a b c number hw1 hw2 address home e =
     name-is : movedName (nameOf m) ≡ choose (isLong (classAt k)) (cellAt vmovl (bit 7 k) (k % 4)) ""
     name-is = rw (st .spelled) at (moved-name k (st .within))
 
-    zero-is : isZero c ≡ eqb (n k count a b c hw1 hw2 address (st .within) filled w) 0
-    zero-is = ap isZero (amount-is k count a b c hw1 hw2 address (st .within) filled w)
+    zero-is : isZero c ≡ eqb (n k count a b c hw1 hw2 address (st .within) (filled st) w) 0
+    zero-is = ap isZero (amount-is k count a b c hw1 hw2 address (st .within) (filled st) w)
 
-    as-it-is : both (isLong (classAt k)) (eqb (n k count a b c hw1 hw2 address (st .within) filled w) 0) ≡ false
+    as-it-is : both (isLong (classAt k)) (eqb (n k count a b c hw1 hw2 address (st .within) (filled st) w) 0) ≡ false
         → both (not (eqt (movedName (nameOf m)) "")) (isZero c) ≡ false → ReadsAs C hw1 hw2 address (canonical (spelt m count a b c))
     as-it-is z q =
         record {
-          first-halfword = is-read k count a b c hw1 hw2 address (st .within) filled w .1;
-          second-halfword = is-read k count a b c hw1 hw2 address (st .within) filled w .2;
+          first-halfword = is-read k count a b c hw1 hw2 address (st .within) (filled st) w .1;
+          second-halfword = is-read k count a b c hw1 hw2 address (st .within) (filled st) w .2;
           mark = T1;
-          read = rw (as-three k count a b c hw1 hw2 address (st .within) filled w z, its-number, as-spelt m count a b c vorr q, w .counted);
+          read = rw (as-three k count a b c hw1 hw2 address (st .within) (filled st) w z, its-number, as-spelt m count a b c vorr q, w .counted);
         }
 
-    go : (l z : Bool) → isLong (classAt k) ≡ l → eqb (n k count a b c hw1 hw2 address (st .within) filled w) 0 ≡ z
+    go : (l z : Bool) → isLong (classAt k) ≡ l → eqb (n k count a b c hw1 hw2 address (st .within) (filled st) w) 0 ≡ z
         → ReadsAs C hw1 hw2 address (canonical (spelt m count a b c))
     go false z el ez = as-it-is (rw el) (rw (name-is, el))
     go true false el ez = as-it-is (rw (el, ez)) (rw (zero-is, ez) (both-no (not (eqt (movedName (nameOf m)) ""))))
     go true true el ez =
         let name : movedName (nameOf m) ≡ cellAt vmovl (bit 7 k) (k % 4) = rw el at name-is in
         record {
-          first-halfword = is-read k count a b c hw1 hw2 address (st .within) filled w .1;
-          second-halfword = is-read k count a b c hw1 hw2 address (st .within) filled w .2;
+          first-halfword = is-read k count a b c hw1 hw2 address (st .within) (filled st) w .1;
+          second-halfword = is-read k count a b c hw1 hw2 address (st .within) (filled st) w .2;
           mark = T1;
           read =
               rw (
-                as-two k count a b c hw1 hw2 address (st .within) filled w (rw (el, ez)),
-                as-vmovl m count a b c (w .counted) vorr (rw (name, moved-filled k (st .within) filled el, zero-is, ez)),
+                as-two k count a b c hw1 hw2 address (st .within) (filled st) w (rw (el, ez)),
+                as-vmovl m count a b c (w .counted) vorr (rw (name, moved-filled k (st .within) (filled st) el, zero-is, ez)),
                 name,
               );
         }
@@ -287,19 +283,19 @@ vmovl-back m k count a b c number hw1 hw2 address home absent e =
     let st = vmovl-stands number m k home in
     let j = vshllCell k in
     let hj = vshll-small k (st .within) in
-    let filled : eqt (cell4 shiftCells j) "" ≡ false = sym (vshll-filled k (st .within)) ∙ rw (st .spelled) (named m (st .known)) in
+    let full : eqt (cell4 shiftCells j) "" ≡ false = sym (vshll-filled k (st .within)) ∙ filled st in
     let w = written (classAt j) j 3 a b (Imm (pos 0)) hw1 hw2 (u .1) in
-    let zero : n j 3 a b (Imm (pos 0)) hw1 hw2 address hj filled w ≡ 0 = cc (amount-is j 3 a b (Imm (pos 0)) hw1 hw2 address hj filled w) in
+    let zero : n j 3 a b (Imm (pos 0)) hw1 hw2 address hj full w ≡ 0 = cc (amount-is j 3 a b (Imm (pos 0)) hw1 hw2 address hj full w) in
     let names = vmovl-names k (st .within) in
     let mnemonic : numberOf (cell4 vmovl k) ≡ m = ap numberOf (st .spelled) ∙ numbersBack m (st .known) in
     let plain = as-spelt m count a b c (rw (← st .spelled, names .0)) (rw (← st .spelled, names .1)) in
     record {
-      first-halfword = is-read j 3 a b (Imm (pos 0)) hw1 hw2 address hj filled w .1;
-      second-halfword = is-read j 3 a b (Imm (pos 0)) hw1 hw2 address hj filled w .2;
+      first-halfword = is-read j 3 a b (Imm (pos 0)) hw1 hw2 address hj full w .1;
+      second-halfword = is-read j 3 a b (Imm (pos 0)) hw1 hw2 address hj full w .2;
       mark = T1;
       read =
           rw (
-            as-two j 3 a b (Imm (pos 0)) hw1 hw2 address hj filled w (rw (zero, vshll-class k (st .within))),
+            as-two j 3 a b (Imm (pos 0)) hw1 hw2 address hj full w (rw (zero, vshll-class k (st .within))),
             vshll-moved k (st .within),
             mnemonic,
             plain,

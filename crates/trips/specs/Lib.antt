@@ -1,4 +1,5 @@
 pub mod Spelling
 pub mod Calls
 pub mod Promises
+pub mod WrongWriters
 pub mod Writable

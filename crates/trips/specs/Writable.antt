@@ -1,5 +1,5 @@
 -- Nothing is refused that could be written: which records a writer refuses, and which with 9, said of what pairs are read as.
--- proofs/Writable.antt proves of our writer each of the four claims, and the promise, under its name.
+-- proofs/Writable.antt proves each of the four claims of our writer, and the promise, under its name; proofs/WrongWriters.antt the last.
 -- Assumes nothing.
 use mathlib.Core.Bool.{true}
 use mathlib.Core.Logic.{_↔_, _≢_}
@@ -18,6 +18,7 @@ use Rattle.decode.specs.Editions.{readingIn}
 use Rattle.writings.specs.Forms.{Pair}
 use Rattle.encode.specs.Writing.{writingIn}
 use Rattle.trips.specs.Spelling.{Held, spelling, canonical}
+use Rattle.trips.specs.WrongWriters.{refusesZero, eightForAmount, nineForRegister, refusesNegative}
 
 -- there is a pair: two halfwords that are read, in the edition, with the mnemonic and the operands of the record,
 -- where VORR with equal sources counts as VMOV, and VSHLL by 0 as VMOVL (`canonical`)
@@ -88,3 +89,11 @@ HoldsNothingBack write =
 -- the promise: so does ours
 abbrev pub NothingHeldBack : Type 0
 NothingHeldBack = HoldsNothingBack writingIn
+
+-- and none of four that answer as ours does, but for one fault each
+abbrev pub WrongWritersShutOut : Type 0
+WrongWritersShutOut =
+    (¬ HoldsNothingBack refusesZero)
+    × (¬ HoldsNothingBack eightForAmount)
+    × (¬ HoldsNothingBack nineForRegister)
+    × (¬ HoldsNothingBack refusesNegative)
