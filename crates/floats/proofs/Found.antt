@@ -26,9 +26,13 @@ module _ (x : Float) (f : fits binary64 x ≡ true) where
   pub its-bits : (b : ℕ) → b < 256 → eq (floatOf b) x ≡ true → b ≡ named (toBits binary64 x)
   its-bits b h e = sym (back b h) ∙ ap (λ (y : Float). named (toBits binary64 y)) (only b x h f e)
 
-  pub found : findFloat x ≡ choose (eq (floatOf (named (toBits binary64 x))) x) (at (named (toBits binary64 x))) none
+  found : findFloat x ≡ choose (eq (floatOf (named (toBits binary64 x))) x) (at (named (toBits binary64 x))) none
   unfolding findFloat
   found = candidate (λ (b : ℕ). eq (floatOf b) x) 256 (named (toBits binary64 x)) (omega arith) its-bits
+
+  -- by the comparison with the float of the immediate that its bits name
+  pub found-by : (b : Bool) {y : Float} → y ≡ floatOf (named (toBits binary64 x)) → eq y x ≡ b → choose b (at (named (toBits binary64 x))) none ≡ findFloat x
+  found-by b is e = sym (found ∙ rw (← is, e))
 
   -- a NaN is unequal to itself, and no immediate's float is
   pub no-nan : not (eq x x) ≡ true → findFloat x ≡ none
