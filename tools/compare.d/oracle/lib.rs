@@ -1,5 +1,6 @@
 //! The original's answers in the port's words, shared by every part of the comparison.
 
+pub mod carried;
 pub mod chosen;
 pub mod clock;
 pub mod damage;
