@@ -15,7 +15,7 @@
                  6  an odd number for a quadword register
     writing      7  no mnemonic has the number, or none in the edition named
                  8  count, kinds, registers or their lengths are not the mnemonic's
-                 9  a number or float that no pair carries
+                 9  a number or float that no pair carries; with another there would be a pair
     running     10  the pair has no meaning for the machine; a pair that cannot be read stops a run with its own number
                 11  an odd count of halfwords, a file that is not of 32, or a start past the end
                 15  pairs remain and the budget is used up
@@ -37,8 +37,10 @@ enum { BODLIXO_EDITION_C = 0, BODLIXO_EDITION_B = 1 };
 /* Reads a pair at an address. On a refusal the record is untouched. */
 uint32_t bodlixo_read(uint32_t edition, uint16_t hw1, uint16_t hw2, uint32_t address, uint64_t record[10]);
 
-/* Writes a record as a pair, whatever its address and mark. On a refusal the pair is untouched. A word too large for
-   its field stands for a value that no pair has; the bits of a not-a-number stand for a not-a-number. */
+/* Writes a record as a pair, whatever its address and mark. On a refusal the pair is untouched. It is refused exactly
+   if no pair is read, in that edition, with its mnemonic and operands, where vorr with equal sources counts as the vmov
+   that it is read as, and vshll by 0 as the vmovl. A word too large for its field stands for a value that no pair has;
+   the bits of a not-a-number stand for a not-a-number. */
 uint32_t bodlixo_write(uint32_t edition, const uint64_t record[10], uint16_t pair[2]);
 
 /* Runs the pairs of `len` halfwords, from the pair `start` on, at most `budget` of them, on a file of 32 doublewords.

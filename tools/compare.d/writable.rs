@@ -8,7 +8,7 @@ use oracle::damage::{Good, SORTS};
 use oracle::{Edition, Names, Record, Report};
 use std::process::ExitCode;
 
-/// What the pairs say of a record, and our answer.
+/// Whether a record has a pair, by what pairs read as, or by our answer.
 #[derive(Clone, Copy, PartialEq, Debug)]
 enum Standing {
     HasAPair,
@@ -42,6 +42,7 @@ fn main() -> ExitCode {
     let names = Names::of_original();
     let carried = Carried::of_original(&names);
     let good = Good::of_original(&names);
+    println!("writable: {} pairs read", carried.len());
     let mut report = Report::default();
     for edition in [Edition::C, Edition::B] {
         let mut counts = [0_u64; 3];
@@ -56,10 +57,9 @@ fn main() -> ExitCode {
             damaged(&good, &names, &mut check);
         }
         println!(
-            "writable under {edition:?}: {} records and {} pairs read; {} have a pair, {} would with \
-             another value, {} not even so; {} disagreements so far",
+            "writable under {edition:?}: {} records, with a pair {}, with another value {}, \
+             without {}; {} disagreements so far",
             counts.iter().sum::<u64>(),
-            carried.len(),
             counts[0],
             counts[1],
             counts[2],
