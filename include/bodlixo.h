@@ -37,10 +37,10 @@ enum { BODLIXO_EDITION_C = 0, BODLIXO_EDITION_B = 1 };
 /* Reads a pair at an address. On a refusal the record is untouched. */
 uint32_t bodlixo_read(uint32_t edition, uint16_t hw1, uint16_t hw2, uint32_t address, uint64_t record[10]);
 
-/* Writes a record as a pair, whatever its address and mark. On a refusal the pair is untouched. It is refused exactly
-   if no pair is read, in that edition, with its mnemonic and operands, where vorr with equal sources counts as the vmov
-   that it is read as, and vshll by 0 as the vmovl. A word too large for its field stands for a value that no pair has;
-   the bits of a not-a-number stand for a not-a-number. */
+/* Writes a record as a pair, whatever its address and mark. On a refusal the pair is untouched. A record is refused
+   exactly if no pair is read, in the edition named, with its mnemonic and operands, where vorr with equal sources counts
+   as the vmov that it is read as, and vshll by 0 as the vmovl. A word too large for its field stands for a value that no
+   pair has; the bits of a not-a-number stand for a not-a-number. */
 uint32_t bodlixo_write(uint32_t edition, const uint64_t record[10], uint16_t pair[2]);
 
 /* Runs the pairs of `len` halfwords, from the pair `start` on, at most `budget` of them, on a file of 32 doublewords.

@@ -28,7 +28,7 @@ use Rattle.homes.specs.declared.Home.the-variants.{Shift}
 use Rattle.homes.proofs.Cells.{firstCell, classAt, first-class, shift-home}
 use Rattle.fields.specs.Halfwords.{field}
 use Rattle.writings.specs.Forms.{Pair, Three, isQuad, allThree}
-use Rattle.writings.proofs.Unfit.{Eight, register-eight}
+use Rattle.writings.proofs.Only.{RefusedOnly, register-eight}
 use Rattle.amount_values.specs.Range.{isOutside}
 use Rattle.amount_values.proofs.Amounts.{outside-nine}
 use Rattle.write_immediates.specs.Shift.{shiftForm, shiftClassed}
@@ -36,7 +36,7 @@ use Rattle.encode.specs.Writing.{writing}
 use Rattle.encode.specs.Promises.{isAccepted, registersFit, OutsideRefused}
 
 -- with an amount that is refused with 9, all three are refused with 9 where the registers fit, else with 8
-all-refused : (x y : Answer ℕ) (f : Three → Answer Pair) → Eight x → Eight y → andThen (allThree x y (refused 9)) f ≡ refused (choose (both (isAccepted x) (isAccepted y)) 9 8)
+all-refused : (x y : Answer ℕ) (f : Three → Answer Pair) → RefusedOnly 8 x → RefusedOnly 8 y → andThen (allThree x y (refused 9)) f ≡ refused (choose (both (isAccepted x) (isAccepted y)) 9 8)
 unfolding allThree
 all-refused (accepted a) (accepted b) f ex ey = refl
 all-refused (accepted a) (refused n) f ex ey = ap refused ey

@@ -36,7 +36,7 @@ alike-register quad o p (same-operand q) = refl
 alike-register quad o p (two-numbers v w) = refl
 alike-register quad o p (two-floats x y) = refl
 
-pub another-alike : (o p : Operand) → AnotherValue o p → Alike o p
+another-alike : (o p : Operand) → AnotherValue o p → Alike o p
 another-alike o p (another-number v w n h) = two-numbers v w
 another-alike o p (another-float x y n h) = two-floats x y
 

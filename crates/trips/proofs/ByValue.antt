@@ -24,7 +24,7 @@ use Rattle.homes.specs.declared.Home.the-variants.{Same3, Shift, Vmovl, Modimm,
 use Rattle.homes.proofs.Cells.{filled, classAt, vmovl-stands}
 use Rattle.fields.specs.Halfwords.{field}
 use Rattle.writings.specs.Forms.{Pair, isQuad, registerIn, Three, allThree, numbers}
-use Rattle.writings.proofs.Unfit.{Eight, register-eight}
+use Rattle.writings.proofs.Only.{RefusedOnly, register-eight}
 use Rattle.amount_values.specs.Amounts.{amountIn}
 use Rattle.immediate_values.specs.Immediates.{immediateIn}
 use Rattle.write_registers.specs.Same3.{same3Form, same3Writing, vorrCell, vmovWriting}
@@ -34,11 +34,10 @@ use Rattle.write_immediates.specs.Modimm.{modimmPair, modimmForm, modimmWriting
 use Rattle.encode.specs.Writing.{inHome}
 use Rattle.trips.proofs.Alike.{Alike, alike-quad, alike-register}
 use Rattle.trips.proofs.Values.{isRefusal}
-use Rattle.trips.proofs.Placed.{zero-amount}
+use Rattle.trips.proofs.Ones.{zero-amount}
 
--- THE VALUE AND THE FORM
-
--- the answer to the value of a record: the third operand of a shift, the second of a modified immediate
+-- the answer to the value of a record: the third operand of a shift, the second of a modified immediate;
+-- no other home has a value, and its form does not look at the answer
 abbrev pub valueIn : Home → String → Operand → Operand → Answer ℕ
 valueIn (Same3 k) name b c = accepted 0
 valueIn (Shift k) name b c = amountIn (classAt k) (field 1 0 k) c
@@ -104,8 +103,7 @@ form-alike a b c a' b' c' aa bb cs Vmov name count value =
     rw (alike-quad a a' aa, alike-register (isQuad a') a a' aa, alike-register (isQuad a') b b' bb)
 form-alike a b c a' b' c' aa bb cs Nowhere name count value = refl
 
--- THROUGH THE VALUE, OR REGARDLESS OF IT
-
+-- a form that goes by the answer to the value, or regardless of it
 pub data Through (form : Answer ℕ → Answer Pair) : Type 0 where
   goes-by : (f : ℕ → Pair) → ((t : ℕ) → form (accepted t) ≡ accepted (f t)) → ((n : ℕ) → form (refused n) ≡ refused n) → Through form
   regardless : (x : Answer Pair) → isRefusal 9 x ≡ false → ((value : Answer ℕ) → form value ≡ x) → Through form
@@ -130,7 +128,7 @@ value-nine form (goes-by f took lost) (accepted s) r = let q = took s in never (
 value-nine form (goes-by f took lost) (refused m) r = let q = lost m in (ap refused (cc), λ t. (f t, took t))
 value-nine form (regardless x plain all) v r = wrong (sym plain ∙ ap (isRefusal 9) (sym (all v) ∙ r))
 
-shift-through : (k : ℕ) (t quad : Bool) (x y : Answer ℕ) → Eight x → Eight y
+shift-through : (k : ℕ) (t quad : Bool) (x y : Answer ℕ) → RefusedOnly 8 x → RefusedOnly 8 y
     → Through (λ value. choose t (andThen (allThree x y value) (shiftForm (classAt k) k quad)) (refused 8))
 unfolding allThree
 shift-through k true quad (accepted d) (accepted m) ex ey =
@@ -144,13 +142,13 @@ shifted-through k count a b =
     shift-through k (eqb count 3) (isQuad a) _ _
     (register-eight (classLengths (classAt k) (isQuad a) .d) a) (register-eight (classLengths (classAt k) (isQuad a) .m) b)
 
-modimm-through : (t quad : Bool) (x : Answer ℕ) → Eight x → Through (λ value. choose t (modimmForm quad x value) (refused 8))
+modimm-through : (t quad : Bool) (x : Answer ℕ) → RefusedOnly 8 x → Through (λ value. choose t (modimmForm quad x value) (refused 8))
 modimm-through true quad (accepted d) ex = goes-by (λ immediate. modimmPair immediate quad d) (λ immediate. refl) (λ n. refl)
 modimm-through true quad (refused n) ex = regardless (refused 8) refl (λ value. ap refused ex)
 modimm-through false quad x ex = regardless (refused 8) refl (λ value. refl)
 
 -- three registers are never refused with 9
-registers-plain : (t : Bool) (x y z : Answer ℕ) (f : Three → Answer Pair) → Eight x → Eight y → Eight z → ((r : Three) → isRefusal 9 (f r) ≡ false)
+registers-plain : (t : Bool) (x y z : Answer ℕ) (f : Three → Answer Pair) → RefusedOnly 8 x → RefusedOnly 8 y → RefusedOnly 8 z → ((r : Three) → isRefusal 9 (f r) ≡ false)
     → isRefusal 9 (choose t (andThen (allThree x y z) f) (refused 8)) ≡ false
 unfolding allThree
 registers-plain true (accepted a) (accepted b) (accepted c) f ex ey ez plain = plain (numbers a b c)

@@ -1,9 +1,10 @@
 pub mod Alike
+pub mod BySpelling
 pub mod ByValue
 pub mod Canonical
 pub mod Held
 pub mod Nines
-pub mod Placed
+pub mod Ones
 pub mod Promises
 pub mod Registers
 pub mod RoundDiff
@@ -13,7 +14,6 @@ pub mod RoundShift
 pub mod Routing
 pub mod ShiftForth
 pub mod ShiftRows
-pub mod Spelt
 pub mod Values
 pub mod Withheld
 pub mod Writable

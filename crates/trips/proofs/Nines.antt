@@ -18,23 +18,24 @@ use Rattle.homes.specs.declared.Home.the-variants.{Same3, Shift, Vmovl, Modimm,
 use Rattle.homes.proofs.Cells.{filled, classAt, shift-stands, modimm-stands}
 use Rattle.fields.specs.Halfwords.{bit, field}
 use Rattle.writings.specs.Numbers.{orNine}
+use Rattle.writings.proofs.Only.{RefusedOnly, found-nine}
 use Rattle.amount_values.specs.Amounts.{amountReads, amountIn}
 use Rattle.immediate_values.specs.Immediates.{immediateReads, immediateOf, immediateIn}
 use Rattle.trips.specs.Writable.{AnotherValue}
 use Rattle.trips.proofs.Alike.{Alike}
-use Rattle.trips.proofs.Values.{NineAlone, found-or-nine, nine-alone, another}
-use Rattle.trips.proofs.Placed.{one-amount, one, one-held, one-immediate}
+use Rattle.trips.proofs.Values.{refused-nine, another}
+use Rattle.trips.proofs.Ones.{one-amount, one, one-held, one-immediate}
 use Rattle.trips.proofs.ByValue.{valueIn}
 
 -- the tests of an amount, and of an immediate
 abbrev amountBy : ℕ → ℤ → Answer ℕ
 amountBy k v = orNine (firstBelow 128 (λ (t : ℕ). amountReads (classAt k) (field 1 0 k) v (bit 6 t) (field 5 0 t)))
 
-amount-alone : (k : ℕ) (v : ℤ) → NineAlone (amountBy k v)
-amount-alone k v = found-or-nine (firstBelow 128 (λ (t : ℕ). amountReads (classAt k) (field 1 0 k) v (bit 6 t) (field 5 0 t)))
+amount-alone : (k : ℕ) (v : ℤ) → RefusedOnly 9 (amountBy k v)
+amount-alone k v = found-nine (firstBelow 128 (λ (t : ℕ). amountReads (classAt k) (field 1 0 k) v (bit 6 t) (field 5 0 t)))
 
-immediate-alone : (name : String) (o : Operand) → NineAlone (immediateOf name o)
-immediate-alone name o = found-or-nine (firstBelow 8192 (λ (t : ℕ). immediateReads name o (bit 12 t) (field 11 8 t) (field 7 0 t)))
+immediate-alone : (name : String) (o : Operand) → RefusedOnly 9 (immediateOf name o)
+immediate-alone name o = found-nine (firstBelow 8192 (λ (t : ℕ). immediateReads name o (bit 12 t) (field 11 8 t) (field 7 0 t)))
 
 -- of values alike, one taken and one refused: refused with 9
 pub alike-nine : (h : Home) (name : String) (b c b' c' : Operand) (n t : ℕ) → Alike b b' → Alike c c'
@@ -42,10 +43,10 @@ pub alike-nine : (h : Home) (name : String) (b c b' c' : Operand) (n t : ℕ) �
 unfolding amountIn immediateIn
 alike-nine (Same3 k) name b c b' c' n t bb cs e r = never (cc)
 alike-nine (Shift k) name b c b' c' n t bb cs e r =
-    nine-alone (amountBy k) (λ x. refused 9) false c c' n t (amount-alone k) (λ x m q. cc) cs e r
+    refused-nine (amountBy k) (λ x. refused 9) false c c' n t (amount-alone k) (λ x. refl) cs e r
 alike-nine (Vmovl k) name b c b' c' n t bb cs e r = never (cc)
 alike-nine (Modimm k) name b c b' c' n t bb cs e r =
-    nine-alone (λ v. immediateOf name (Imm v)) (λ x. immediateOf name (Float x)) (eqt name "vmov.f32") b b' n t
+    refused-nine (λ v. immediateOf name (Imm v)) (λ x. immediateOf name (Float x)) (eqt name "vmov.f32") b b' n t
     (λ v. immediate-alone name (Imm v)) (λ x. immediate-alone name (Float x)) bb e r
 alike-nine (Diff k) name b c b' c' n t bb cs e r = never (cc)
 alike-nine Vmov name b c b' c' n t bb cs e r = never (cc)

@@ -1,6 +1,6 @@
--- A value's own test: a whole number or a float that it refuses it refuses with 9, and any other operand with 8.
+-- A value's own test: what is of the kind that the name takes is refused with 9 alone, and anything else with 8.
 -- Assumes nothing.
-use mathlib.Core.Path.{_≡_, refl, sym, ap, _∙_}
+use mathlib.Core.Path.{_≡_, refl, sym, ap, _∙_, subst}
 use mathlib.Core.Bool.{Bool, true, false}
 use mathlib.Core.Logic.{_≢_}
 use Prim.Native.Nat.{ℕ, _^_}
@@ -12,37 +12,28 @@ use lib.Signed.{mag}
 use borrow.Author.Tests.{ltb-true}
 use Rattle.laws.specs.Answer.{Answer, accepted, refused}
 use Rattle.laws.specs.Choice.{choose}
-use Rattle.laws.specs.Search.{Found, at, none}
 use Rattle.laws.proofs.Never.{never, wrong}
 use Rattle.insn.specs.declared.Operand.{Operand}
 use Rattle.insn.specs.declared.Operand.the-variants.{D, Q, S, Imm, Float, Other, Absent}
 use Rattle.insn.specs.Record.{valueOr}
-use Rattle.writings.specs.Numbers.{orNine}
+use Rattle.writings.proofs.Only.{RefusedOnly}
 use Rattle.trips.specs.Writable.{AnotherValue, another-number, another-float}
 use Rattle.trips.proofs.Alike.{Alike, same-operand, two-numbers, two-floats}
 
--- the number of a refusal
+-- whether an answer is the refusal n
 abbrev pub isRefusal : {A : Type 0} → ℕ → Answer A → Bool
 isRefusal n (accepted a) = false
 isRefusal n (refused m) = eqb m n
-
--- an answer that refuses with 9 alone
-abbrev pub NineAlone : Answer ℕ → Type 0
-NineAlone x = (n : ℕ) → x ≡ refused n → n ≡ 9
-
-pub found-or-nine : (f : Found) → NineAlone (orNine f)
-found-or-nine (at k) n e = never (cc)
-found-or-nine none n e = cc
 
 -- an operand as the value of a name that takes floats, or numbers; f and g are their tests
 abbrev pub valueBy : Bool → (ℤ → Answer ℕ) → (Ieee.Float → Answer ℕ) → Operand → Answer ℕ
 valueBy floats f g o = valueOr (λ v. choose floats (refused 8) (f v)) (λ x. choose floats (g x) (refused 8)) (refused 8) o
 
 -- an i64 or an f64
-abbrev pub isHeld : Operand → Bool
-isHeld o = valueOr (λ w. ltb (mag w) (2 ^ 63)) (λ y. fits binary64 y) false o
+abbrev pub has64Bits : Operand → Bool
+has64Bits o = valueOr (λ w. ltb (mag w) (2 ^ 63)) (λ y. fits binary64 y) false o
 
--- the kind that the name takes
+-- a value of the kind that the name takes, and its answer
 data Valued (floats : Bool) (f : ℤ → Answer ℕ) (g : Ieee.Float → Answer ℕ) (o : Operand) (answer : Answer ℕ) : Type 0 where
   is-number : floats ≡ false → (v : ℤ) → o ≡ Imm v → f v ≡ answer → Valued floats f g o answer
   is-float : floats ≡ true → (x : Ieee.Float) → o ≡ Float x → g x ≡ answer → Valued floats f g o answer
@@ -64,21 +55,21 @@ module _ (f : ℤ → Answer ℕ) (g : Ieee.Float → Answer ℕ) where
   valued floats Absent answer n e = wrong (sym n ∙ sym (ap (isRefusal 8) e))
 
   -- of two values of one kind, one taken and one refused: refused with 9
-  pub nine-alone : (floats : Bool) (o p : Operand) (n t : ℕ) → ((v : ℤ) → NineAlone (f v)) → ((x : Ieee.Float) → NineAlone (g x)) → Alike o p
+  pub refused-nine : (floats : Bool) (o p : Operand) (n t : ℕ) → ((v : ℤ) → RefusedOnly 9 (f v)) → ((x : Ieee.Float) → RefusedOnly 9 (g x)) → Alike o p
       → valueBy floats f g p ≡ accepted t → valueBy floats f g o ≡ refused n → n ≡ 9
-  nine-alone floats o p n t hf hg (same-operand q) e r = never (cc)
-  nine-alone false o p n t hf hg (two-numbers v w) e r = hf v n r
-  nine-alone true o p n t hf hg (two-numbers v w) e r = never (cc)
-  nine-alone true o p n t hf hg (two-floats x y) e r = hg x n r
-  nine-alone false o p n t hf hg (two-floats x y) e r = never (cc)
+  refused-nine floats o p n t hf hg (same-operand q) e r = never (cc)
+  refused-nine false o p n t hf hg (two-numbers v w) e r = subst (RefusedOnly 9) r (hf v)
+  refused-nine true o p n t hf hg (two-numbers v w) e r = never (cc)
+  refused-nine true o p n t hf hg (two-floats x y) e r = subst (RefusedOnly 9) r (hg x)
+  refused-nine false o p n t hf hg (two-floats x y) e r = never (cc)
 
   -- one refused with 9 and one taken: the second is another of the first's kind
-  pub another : (floats : Bool) (o p : Operand) (t : ℕ) → isHeld p ≡ true → valueBy floats f g o ≡ refused 9 → valueBy floats f g p ≡ accepted t → AnotherValue o p
+  pub another : (floats : Bool) (o p : Operand) (t : ℕ) → has64Bits p ≡ true → valueBy floats f g o ≡ refused 9 → valueBy floats f g p ≡ accepted t → AnotherValue o p
   another floats o p t h r e = go (valued floats o (refused 9) refl r) (valued floats p (accepted t) refl e)
     where
       go : Valued floats f g o (refused 9) → Valued floats f g p (accepted t) → AnotherValue o p
       go (is-number a v ev rv) (is-number b w ew tw) =
-          rw (ev, ew) (another-number v w (differs f v w t rv tw) (ltb-true (mag w) (2 ^ 63) (sym (ap isHeld ew) ∙ h)))
-      go (is-float a x ex rx) (is-float b y ey ty) = rw (ex, ey) (another-float x y (differs g x y t rx ty) (sym (ap isHeld ey) ∙ h))
+          rw (ev, ew) (another-number v w (differs f v w t rv tw) (ltb-true (mag w) (2 ^ 63) (sym (ap has64Bits ew) ∙ h)))
+      go (is-float a x ex rx) (is-float b y ey ty) = rw (ex, ey) (another-float x y (differs g x y t rx ty) (sym (ap has64Bits ey) ∙ h))
       go (is-number a v ev rv) (is-float b y ey ty) = wrong (sym a ∙ b)
       go (is-float a x ex rx) (is-number b w ew tw) = wrong (sym b ∙ a)

@@ -22,19 +22,17 @@ use Rattle.homes.specs.declared.Home.{Home}
 use Rattle.writings.specs.Forms.{Pair, pair, isNumber}
 use Rattle.encode.specs.Writing.{writing, writingIn}
 use Rattle.trips.specs.Spelling.{Held, spelling, spelled, canonical}
-use Rattle.trips.specs.Writable.{PairFor, AnotherValue, another-number, another-float, AnotherOfItsKind, PairForAnother, IsRefused, RefusedIfNone, NoneIfRefused, NineIfAnother, AnotherIfNine, NothingHeldBack}
+use Rattle.trips.specs.Writable.{PairFor, AnotherValue, another-number, another-float, AnotherOfItsKind, PairForAnother, IsRefused, NothingHeldBack}
 use Rattle.trips.proofs.Promises.{readThenWritten, writtenThenRead}
-use Rattle.trips.proofs.Spelt.{askedIn, writing-is, marked-is, read-so, as-read}
+use Rattle.trips.proofs.BySpelling.{askedIn, writing-is, marked-is, read-so, as-read}
 use Rattle.trips.proofs.Alike.{alike-number, alike-at}
 use Rattle.trips.proofs.Values.{isRefusal}
 use Rattle.trips.proofs.ByValue.{valueIn, formIn, in-form, form-alike, Through, value-refused, value-nine, through}
 use Rattle.trips.proofs.Nines.{alike-nine, Mended, by-second, by-third, mended}
 
--- A PAIR, AND SO WRITTEN; WRITTEN, AND SO A PAIR
-
 -- what is read so is written
-has-pair : (edition : Edition) (i : Insn) → PairFor edition i → (p : Pair) × (writingIn edition i ≡ accepted p)
-has-pair edition i c = (
+pub written-if-read : (edition : Edition) (i : Insn) → PairFor edition i → (p : Pair) × (writingIn edition i ≡ accepted p)
+written-if-read edition i c = (
   pair (c .hw1) (c .hw2),
   writing-is edition i
       ∙ sym (as-read edition (spelling i))
@@ -44,8 +42,8 @@ has-pair edition i c = (
 )
 
 -- what is written reads back so
-is-pair : (edition : Edition) (i : Insn) → Held (placeAt i 1) → (p : Pair) → writingIn edition i ≡ accepted p → PairFor edition i
-is-pair edition i held (pair hw1 hw2) e =
+read-if-written : (edition : Edition) (i : Insn) → Held (placeAt i 1) → (p : Pair) → writingIn edition i ≡ accepted p → PairFor edition i
+read-if-written edition i held (pair hw1 hw2) e =
     let r = writtenThenRead edition i hw1 hw2 (i .address) held e in
     record {
       hw1 = hw1;
@@ -60,17 +58,15 @@ is-pair edition i held (pair hw1 hw2) e =
 clash : {A : Type 0} (x : Answer Pair) (n : ℕ) (p : Pair) → x ≡ refused n → x ≡ accepted p → A
 clash x n p r e = never (cc)
 
-pub refusedIfNone : RefusedIfNone writingIn
-refusedIfNone edition i held no-pair = go (writingIn edition i) refl
+refused-if-none : (edition : Edition) (i : Insn) → Held (placeAt i 1) → ¬ PairFor edition i → IsRefused (writingIn edition i)
+refused-if-none edition i held none = go (writingIn edition i) refl
   where
     go : (x : Answer Pair) → writingIn edition i ≡ x → IsRefused (writingIn edition i)
-    go (accepted p) e = absurd (no-pair (is-pair edition i held p e))
+    go (accepted p) e = absurd (none (read-if-written edition i held p e))
     go (refused n) e = (n, e)
 
-pub noneIfRefused : NoneIfRefused writingIn
-noneIfRefused edition i held r c = let w = has-pair edition i c in clash (writingIn edition i) (r .0) (w .0) (r .1) (w .1)
-
--- ANOTHER VALUE
+none-if-refused : (edition : Edition) (i : Insn) → IsRefused (writingIn edition i) → ¬ PairFor edition i
+none-if-refused edition i r c = let w = written-if-read edition i c in clash (writingIn edition i) (r .0) (w .0) (r .1) (w .1)
 
 -- a record, in the home of its name
 abbrev homeFor : Insn → Home
@@ -116,11 +112,11 @@ module _ (i j : Insn) (d : AnotherOfItsKind i j) where
       let v = value-refused (formFor i) (form-through i) (valueFor i) (valueFor j) p n (sym (same-form (valueFor j)) ∙ sym (form-is j) ∙ e) (sym (form-is i) ∙ r) in
       alike-nine (homeFor i) (nameOf (i .mnemonic)) (placeAt i 1) (placeAt i 2) (placeAt j 1) (placeAt j 2) n (v .0 .0) (alike-at i j d 1) (alike-at i j d 2) (sym same-value ∙ v .0 .1) (v .1)
 
-pub nineIfAnother : NineIfAnother writingIn
-nineIfAnother edition i held no-pair a =
+nine-if-another : (edition : Edition) (i : Insn) → Held (placeAt i 1) → ¬ PairFor edition i → PairForAnother edition i → writingIn edition i ≡ refused 9
+nine-if-another edition i held none a =
     let j = a .other in
-    let w = has-pair edition j (a .pair-for) in
-    let r = refusedIfNone edition i held no-pair in
+    let w = written-if-read edition j (a .pair-for) in
+    let r = refused-if-none edition i held none in
     let pj = passed (withholds edition (nameOf (j .mnemonic))) 7 (writing j) (w .0) (w .1) in
     let here : withholds edition (nameOf (i .mnemonic)) ≡ false = rw (a .another .mnemonic) at (pj .0) in
     let ri : writing i ≡ refused (r .0) = rw here at (r .1) in
@@ -180,10 +176,10 @@ module _ (edition : Edition) (i : Insn) (kept : withholds edition (nameOf (i .mn
   pair-by t e held =
       let taken = value-nine (formFor i) (form-through i) (valueFor i) (sym (form-is i) ∙ r) .1 t in
       let w : writing j ≡ accepted (taken .0) = form-is j ∙ ap (formFor j) (same-value i j d ∙ e) ∙ same-form i j d (accepted t) ∙ taken .1 in
-      record { other = j; another = d; pair-for = is-pair edition j held (taken .0) (rw kept w) }
+      record { other = j; another = d; pair-for = read-if-written edition j held (taken .0) (rw kept w) }
 
-pub anotherIfNine : AnotherIfNine writingIn
-anotherIfNine edition i held r = (noneIfRefused edition i held (9, r), go (withholds edition (nameOf (i .mnemonic))) refl r)
+another-if-nine : (edition : Edition) (i : Insn) → Held (placeAt i 1) → writingIn edition i ≡ refused 9 → PairForAnother edition i
+another-if-nine edition i held r = go (withholds edition (nameOf (i .mnemonic))) refl r
   where
     go : (b : Bool) → withholds edition (nameOf (i .mnemonic)) ≡ b → choose b (refused 7) (writing i) ≡ refused 9 → PairForAnother edition i
     go true kept e = wrong (ap (isRefusal 9) e)
@@ -199,7 +195,10 @@ anotherIfNine edition i held r = (noneIfRefused edition i held (9, r), go (withh
             pair-by edition i kept e 2 o a is t (rw (is, second) q) (rw second held)
 
 pub nothingHeldBack : NothingHeldBack
-nothingHeldBack edition i held = (
-  (noneIfRefused edition i held, refusedIfNone edition i held),
-  (anotherIfNine edition i held, λ s. nineIfAnother edition i held (s .0) (s .1)),
-)
+nothingHeldBack edition i held =
+    record {
+      refused-if-none = refused-if-none edition i held;
+      none-if-refused = none-if-refused edition i;
+      nine-if-another = nine-if-another edition i held;
+      another-if-nine = λ r. (none-if-refused edition i (9, r), another-if-nine edition i held r);
+    }

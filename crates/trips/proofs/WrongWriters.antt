@@ -1,18 +1,23 @@
--- A record for each wrong writer on which it answers otherwise than the claim asks: antt computes the answers.
+-- Four writers with one fault each, and that none of them goes by pairs: for each a record that antt computes the answers to.
 -- Assumes nothing.
+use mathlib.Core.Bool.{Bool, true, false}
 use mathlib.Core.Path.{_≡_, refl, sym, ap, _∙_}
 use Prim.Native.Nat.{ℕ}
 use native.Mathlib.Omega.{arith}
-use lib.Ieee.{fits}
+use lib.Dec.{eqb}
+use lib.Ieee as Ieee
+use lib.Ieee.{nan, inf, fin, fits}
 use lib.IntN.{pos}
-use Rattle.laws.specs.Answer.{Answer, refused}
+use Rattle.laws.specs.Answer.{Answer, accepted, refused}
+use Rattle.laws.specs.Choice.{choose}
 use Rattle.laws.specs.Search.{firstFrom}
 use Rattle.laws.proofs.Never.{wrong}
+use Rattle.insn.specs.declared.Edition.{Edition}
 use Rattle.insn.specs.declared.Edition.the-variants.{C}
 use Rattle.insn.specs.declared.Insn.{Insn}
 use Rattle.insn.specs.declared.Mark.the-variants.{T1}
 use Rattle.insn.specs.declared.Operand.the-variants.{D, Q, Imm, Float, Absent}
-use Rattle.insn.specs.Record.{placeAt}
+use Rattle.insn.specs.Record.{placeAt, valueOr}
 use Rattle.names.specs.Names.{names, nameOf, numberOf}
 use Rattle.tables.specs.Cells.{cellsOf}
 use Rattle.register_tables.specs.Same3.{same3}
@@ -20,7 +25,7 @@ use Rattle.register_tables.specs.Diff.{diffRows, diffCells}
 use Rattle.immediate_tables.specs.Shift.{shiftRows, shiftCells, shiftClasses, vmovl}
 use Rattle.immediate_tables.specs.Modimm.{modimm}
 use Rattle.homes.specs.Home.{placeIn, otherHome, homeOf}
-use Rattle.fields.specs.Registers.{vecOf, vecBits}
+use Rattle.fields.specs.Registers.{Bits, vecOf, vecBits}
 use Rattle.floats.specs.Floats.{floatOf}
 use Rattle.amounts.specs.Shifts.{isEscape, rightEnd, leftStart, sizeCode}
 use Rattle.immediates.specs.Modified.{constantAt, operandIn, needsNonzero}
@@ -28,16 +33,50 @@ use Rattle.readings.specs.Operands.{insn, two}
 use Rattle.read_immediates.specs.Shift.{forbidden, columnOf, shifted, shiftOf, shiftReading, isLongByZero}
 use Rattle.read_immediates.specs.Modimm.{modimmOf, modimmReading}
 use Rattle.decode.specs.Reading.{familyOf, inFamily, reading}
-use Rattle.writings.specs.Forms.{Pair, registerIn, allThree}
+use Rattle.writings.specs.Forms.{Pair, isNumber, registerIn, allThree}
 use Rattle.amount_values.specs.Amounts.{amountReads, amountIn}
 use Rattle.write_registers.specs.Same3.{same3Writing}
 use Rattle.write_immediates.specs.Shift.{shiftClassed}
-use Rattle.encode.specs.Writing.{writing}
-use Rattle.trips.specs.Spelling.{Held, canonical}
-use Rattle.trips.specs.Writable.{PairFor, Writer, HoldsNothingBack, WrongWritersShutOut}
-use Rattle.trips.specs.WrongWriters.{insteadOf, refusesZero, eightForAmount, nineForRegister, refusesNegative}
+use Rattle.encode.specs.Writing.{writing, writingIn}
+use Rattle.trips.specs.Spelling.{Held, spelling, isLongMove, canonical}
+use Rattle.trips.specs.Writable.{PairFor, GoesByPairs}
 use Rattle.trips.proofs.Values.{isRefusal}
-use Rattle.trips.proofs.Writable.{nothingHeldBack}
+use Rattle.trips.proofs.Writable.{written-if-read, nothingHeldBack}
+
+-- one refusal given for another
+abbrev insteadOf : ℕ → ℕ → Answer Pair → Answer Pair
+insteadOf due given (accepted p) = accepted p
+insteadOf due given (refused n) = refused (choose (eqb n due) given n)
+
+-- a record refused that ours writes
+abbrev withdrawn : Answer Pair → Answer Pair
+withdrawn (accepted p) = refused 9
+withdrawn (refused n) = refused n
+
+abbrev isRegister : Answer Bits → Bool
+isRegister (accepted b) = true
+isRegister (refused n) = false
+
+abbrev isNegative : Ieee.Float → Bool
+isNegative nan = false
+isNegative (inf negative) = negative
+isNegative (fin negative m e) = negative
+
+-- it refuses VSHLL by 0
+abbrev refusesZero : Edition → Insn → Answer Pair
+refusesZero edition i = choose (isLongMove (spelling i)) (withdrawn (writingIn edition i)) (writingIn edition i)
+
+-- it gives 8 for an amount out of range
+abbrev eightForAmount : Edition → Insn → Answer Pair
+eightForAmount edition i = choose (isNumber (placeAt i 2)) (insteadOf 9 8 (writingIn edition i)) (writingIn edition i)
+
+-- it gives 9 where the first place is no D or Q register that there is
+abbrev nineForRegister : Edition → Insn → Answer Pair
+nineForRegister edition i = choose (isRegister (vecBits (placeAt i 0))) (writingIn edition i) (insteadOf 8 9 (writingIn edition i))
+
+-- it refuses VMOV.F32 of a negative float
+abbrev refusesNegative : Edition → Insn → Answer Pair
+refusesNegative edition i = choose (valueOr (λ v. false) isNegative false (placeAt i 1)) (withdrawn (writingIn edition i)) (writingIn edition i)
 
 -- VSHLL.S8 Q0, D1, #0, which is read as VMOVL.S8, and VMOV.F32 D0, #-1: both have a pair
 byZero : Insn
@@ -83,39 +122,40 @@ far-nine = refl
 noRegister : Insn
 noRegister = insn (numberOf "vadd.i8") T1 0 3 (D 32) (D 1) (D 2)
 
-register-eight : writing noRegister ≡ refused 8
+none-eight : writing noRegister ≡ refused 8
 unfolding noRegister writing placeAt homeOf placeIn otherHome cellsOf same3 shiftRows shiftCells vmovl modimm diffRows diffCells names nameOf numberOf registerIn vecBits allThree same3Writing
-register-eight = refl
+none-eight = refl
 
 -- what a writer that keeps the claim answers to a record under C
-module _ (write : Writer) (h : HoldsNothingBack write) (i : Insn) (held : Held (placeAt i 1)) where
-  takes-pairs : PairFor C i → (n : ℕ) → write C i ≡ refused n → ⊥
-  takes-pairs c n e = h C i held .0 .0 (n, e) c
+module _ (write : Edition → Insn → Answer Pair) (h : GoesByPairs write) (i : Insn) (held : Held (placeAt i 1)) where
+  not-withdrawn : PairFor C i → write C i ≡ withdrawn (writing i) → ⊥
+  not-withdrawn c e = h C i held .none-if-refused (9, e ∙ ap withdrawn (written-if-read C i c .1)) c
 
   has-our-nine : writing i ≡ refused 9 → write C i ≡ refused 9
-  has-our-nine e = h C i held .1 .1 (nothingHeldBack C i held .1 .0 e)
+  has-our-nine e =
+      let ours = nothingHeldBack C i held .another-if-nine e in
+      h C i held .nine-if-another (ours .0) (ours .1)
 
   nine-is-ours : write C i ≡ refused 9 → writing i ≡ refused 9
-  nine-is-ours e = nothingHeldBack C i held .1 .1 (h C i held .1 .0 e)
+  nine-is-ours e =
+      let its = h C i held .another-if-nine e in
+      nothingHeldBack C i held .nine-if-another (its .0) (its .1)
 
 eight-is-nine : {A : Type 0} → _≡_ {A = Answer Pair} (refused 8) (refused 9) → A
 eight-is-nine e = wrong (ap (isRefusal 9) e)
 
-no-zero : ¬ HoldsNothingBack refusesZero
+pub refuses-zero : ¬ GoesByPairs refusesZero
 unfolding byZero placeAt names nameOf numberOf
-no-zero h = takes-pairs refusesZero h byZero tt zero-pair 9 refl
+refuses-zero h = not-withdrawn refusesZero h byZero tt zero-pair refl
 
-no-eight : ¬ HoldsNothingBack eightForAmount
+pub eight-for-amount : ¬ GoesByPairs eightForAmount
 unfolding tooFar placeAt
-no-eight h = eight-is-nine (sym (ap (insteadOf 9 8) far-nine) ∙ has-our-nine eightForAmount h tooFar tt far-nine)
+eight-for-amount h = eight-is-nine (sym (ap (insteadOf 9 8) far-nine) ∙ has-our-nine eightForAmount h tooFar tt far-nine)
 
-no-nine : ¬ HoldsNothingBack nineForRegister
+pub nine-for-register : ¬ GoesByPairs nineForRegister
 unfolding noRegister placeAt vecBits
-no-nine h = eight-is-nine (sym register-eight ∙ nine-is-ours nineForRegister h noRegister tt (ap (insteadOf 8 9) register-eight))
+nine-for-register h = eight-is-nine (sym none-eight ∙ nine-is-ours nineForRegister h noRegister tt (ap (insteadOf 8 9) none-eight))
 
-no-negative : ¬ HoldsNothingBack refusesNegative
+pub refuses-negative : ¬ GoesByPairs refusesNegative
 unfolding negative placeAt floatOf fits
-no-negative h = takes-pairs refusesNegative h negative refl negative-pair 9 refl
-
-pub wrongWritersShutOut : WrongWritersShutOut
-wrongWritersShutOut = (no-zero, no-eight, no-nine, no-negative)
+refuses-negative h = not-withdrawn refusesNegative h negative refl negative-pair refl

@@ -1,5 +1,4 @@
 pub mod Spelling
 pub mod Calls
 pub mod Promises
-pub mod WrongWriters
 pub mod Writable

@@ -1,8 +1,8 @@
--- Nothing is refused that could be written: which records a writer refuses, and which with 9, said of what pairs are read as.
--- proofs/Writable.antt proves each of the four claims of our writer, and the promise, under its name; proofs/WrongWriters.antt the last.
+-- Nothing is refused that could be written: which records are refused, and which with 9, said of what pairs are read as.
+-- proofs/Writable.antt proves `NothingHeldBack` under its name.
 -- Assumes nothing.
 use mathlib.Core.Bool.{true}
-use mathlib.Core.Logic.{_↔_, _≢_}
+use mathlib.Core.Logic.{_≢_}
 use mathlib.Core.Path.{_≡_}
 use Prim.Native.Nat.{ℕ, _^_, _<_}
 use lib.Ieee.{Float, binary64, fits}
@@ -18,7 +18,6 @@ use Rattle.decode.specs.Editions.{readingIn}
 use Rattle.writings.specs.Forms.{Pair}
 use Rattle.encode.specs.Writing.{writingIn}
 use Rattle.trips.specs.Spelling.{Held, spelling, canonical}
-use Rattle.trips.specs.WrongWriters.{refusesZero, eightForAmount, nineForRegister, refusesNegative}
 
 -- there is a pair: two halfwords that are read, in the edition, with the mnemonic and the operands of the record,
 -- where VORR with equal sources counts as VMOV, and VSHLL by 0 as VMOVL (`canonical`)
@@ -36,7 +35,7 @@ pub data AnotherValue : Operand → Operand → Type 0 where
   another-number : (v w : ℤ) → w ≢ v → mag w < 2 ^ 63 → AnotherValue (Imm v) (Imm w)
   another-float : (x y : Float) → y ≢ x → fits binary64 y ≡ true → AnotherValue (Real x) (Real y)
 
--- the same record, but that one place within its count has another value of the same kind
+-- the same record, but that one place within its count has another value of the same kind; what stands past the count is no part of it
 pub record AnotherOfItsKind (i other : Insn) : Type 0 where
   pub mnemonic : other .mnemonic ≡ i .mnemonic
   pub mark : other .mark ≡ i .mark
@@ -52,48 +51,22 @@ pub record PairForAnother (edition : Edition) (i : Insn) : Type 0 where
   pub another : AnotherOfItsKind i other
   pub pair-for : PairFor edition other
 
--- what a writer answers to a record, in an edition
-abbrev pub Writer : Type 0
-Writer = Edition → Insn → Answer Pair
-
 abbrev pub IsRefused : Answer Pair → Type 0
 IsRefused answer = (n : ℕ) × (answer ≡ refused n)
 
--- Four claims about a writer, each for every record that the code's types can hold: a float at its second place has 64 bits.
+-- an answer to a record that is as the pairs have it: a refusal exactly if there is no pair,
+-- and 9 exactly if there is none, but there would be one
+pub record AsPairsHave (edition : Edition) (i : Insn) (answer : Answer Pair) : Type 0 where
+  pub refused-if-none : ¬ PairFor edition i → IsRefused answer
+  pub none-if-refused : IsRefused answer → ¬ PairFor edition i
+  pub nine-if-another : ¬ PairFor edition i → PairForAnother edition i → answer ≡ refused 9
+  pub another-if-nine : answer ≡ refused 9 → (¬ PairFor edition i) × PairForAnother edition i
 
--- where there is no pair, it refuses
-abbrev pub RefusedIfNone : Writer → Type 0
-RefusedIfNone write = (edition : Edition) (i : Insn) → Held (placeAt i 1) → ¬ PairFor edition i → IsRefused (write edition i)
+-- a writer that answers so in each edition, to every record whose second place, the only one where a form takes a float,
+-- has no float but an f64 (`Held`), as every record of the code has it
+abbrev pub GoesByPairs : (Edition → Insn → Answer Pair) → Type 0
+GoesByPairs write = (edition : Edition) (i : Insn) → Held (placeAt i 1) → AsPairsHave edition i (write edition i)
 
--- where it refuses, there is no pair
-abbrev pub NoneIfRefused : Writer → Type 0
-NoneIfRefused write = (edition : Edition) (i : Insn) → Held (placeAt i 1) → IsRefused (write edition i) → ¬ PairFor edition i
-
--- where there is none, but there would be one, it refuses with 9
-abbrev pub NineIfAnother : Writer → Type 0
-NineIfAnother write =
-    (edition : Edition) (i : Insn) → Held (placeAt i 1) → ¬ PairFor edition i → PairForAnother edition i → write edition i ≡ refused 9
-
--- where it refuses with 9, there is none, but there would be one
-abbrev pub AnotherIfNine : Writer → Type 0
-AnotherIfNine write =
-    (edition : Edition) (i : Insn) → Held (placeAt i 1) → write edition i ≡ refused 9 → (¬ PairFor edition i) × PairForAnother edition i
-
--- all four: it refuses exactly if there is no pair, and with 9 exactly if there is none, but there would be one
-abbrev pub HoldsNothingBack : Writer → Type 0
-HoldsNothingBack write =
-    (edition : Edition) (i : Insn) → Held (placeAt i 1)
-    → (IsRefused (write edition i) ↔ (¬ PairFor edition i))
-    × ((write edition i ≡ refused 9) ↔ ((¬ PairFor edition i) × PairForAnother edition i))
-
--- the promise: so does ours
+-- ours does
 abbrev pub NothingHeldBack : Type 0
-NothingHeldBack = HoldsNothingBack writingIn
-
--- and none of four that answer as ours does, but for one fault each
-abbrev pub WrongWritersShutOut : Type 0
-WrongWritersShutOut =
-    (¬ HoldsNothingBack refusesZero)
-    × (¬ HoldsNothingBack eightForAmount)
-    × (¬ HoldsNothingBack nineForRegister)
-    × (¬ HoldsNothingBack refusesNegative)
+NothingHeldBack = GoesByPairs writingIn

@@ -1,4 +1,4 @@
+pub mod Only
 pub mod Pairs
 pub mod Promises
-pub mod Unfit
 pub mod Tests

@@ -54,8 +54,6 @@ module _ (edition : Edition) (i : Insn) where
   unfolding writing placeAt
   marked-is mark address = refl
 
--- THE RECORD OF A SPELLING
-
 -- a place that is absent from the count on
 abbrev Settled : ℕ → ℕ → Operand → Type 0
 Settled k count o = choose (ltb k count) o Absent ≡ o
@@ -64,7 +62,7 @@ twice : (b : Bool) (o : Operand) → choose b (choose b o Absent) Absent ≡ cho
 twice true o = refl
 twice false o = refl
 
--- it has that spelling
+-- the record of a spelling has that spelling
 respelled : (s : Spelling) (mark : Mark) (address : ℕ) → Settled 0 (s .count) (s .first) → Settled 1 (s .count) (s .second) → Settled 2 (s .count) (s .third)
     → spelling (spelled s mark address) ≡ s
 unfolding placeAt
@@ -77,17 +75,15 @@ read-so i mark address = go (isMove s) (isLongMove s)
     s : Spelling
     s = spelling i
 
-    as-read : Bool → Bool → Spelling
-    as-read move long = choose move (renamed "vmov" s) (choose long (renamed (movedName (nameOf (s .mnemonic))) s) s)
+    read-as : Bool → Bool → Spelling
+    read-as move long = choose move (renamed "vmov" s) (choose long (renamed (movedName (nameOf (s .mnemonic))) s) s)
 
-    go : (move long : Bool) → spelling (spelled (as-read move long) mark address) ≡ as-read move long
+    go : (move long : Bool) → spelling (spelled (read-as move long) mark address) ≡ read-as move long
     go true long = respelled (renamed "vmov" s) mark address refl refl refl
     go false true = respelled (renamed (movedName (nameOf (s .mnemonic))) s) mark address refl refl refl
     go false false =
         respelled s mark address
         (twice (ltb 0 (i .count)) (i .first)) (twice (ltb 1 (i .count)) (i .second)) (twice (ltb 2 (i .count)) (i .third))
-
--- THE TWO SPELLINGS
 
 -- VORR stands at its cell, whatever the third operand
 vorr-home : (number : Bool) → homeOf "vorr" number ≡ Same3 vorrCell

@@ -31,10 +31,9 @@ use Rattle.immediate_values.specs.Immediates.{immediateIn}
 use Rattle.immediate_values.proofs.Immediates.{op, cmode, imm8}
 use Rattle.write_immediates.specs.Shift.{vshllCell}
 use Rattle.trips.proofs.RoundModimm.{place-again}
-use Rattle.trips.proofs.Values.{isHeld}
+use Rattle.trips.proofs.Values.{has64Bits}
 
--- AMOUNTS: 1 has a place in every column that is not blank, and 0 in every one of VMOVL
-
+-- amounts: 1 has a place in every column that is not blank, and 0 in every one of VMOVL
 abbrev isAt : Found → Bool
 isAt (at k) = true
 isAt none = false
@@ -64,14 +63,13 @@ zero-amount k h e =
     let j = vshllCell k in
     is-at (placed (classAt j) (field 1 0 j) 0) _ (zero-placed k h e) (amount-place (classAt j) (field 1 0 j) 0 (omega arith) (omega arith))
 
--- IMMEDIATES: 1 in a row that is not blank is a value that the row's name carries
-
+-- immediates: imm8 = 1 in a row that is not blank
 abbrev pub one : ℕ → Operand
 one k = operandIn (constantAt (k / 16) (k % 16)) 1
 
-pub one-held : (k : ℕ) → k < 32 → eqt (cell16 modimm k) "" ≡ false → isHeld (one k) ≡ true
+pub one-held : (k : ℕ) → k < 32 → eqt (cell16 modimm k) "" ≡ false → has64Bits (one k) ≡ true
 unfolding values modimm constantAt operandIn element twosComplement floatOf fits
-one-held k h e = rw e at (agree (λ (k : ℕ). choose (eqt (cell16 modimm k) "") true (isHeld (one k))) (λ (k : ℕ). true) 32 refl k h)
+one-held k h e = rw e at (agree (λ (k : ℕ). choose (eqt (cell16 modimm k) "") true (has64Bits (one k))) (λ (k : ℕ). true) 32 refl k h)
 
 pub one-immediate : (m k : ℕ) → Stands m k 32 (cell16 modimm) → immediateIn (nameOf m) (one k) ≡ accepted (k * 256 + 1)
 one-immediate m k st =

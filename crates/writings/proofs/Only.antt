@@ -1,4 +1,4 @@
--- A register that a form does not take.
+-- Which refusals an answer may have: a register is refused with 8 alone, a value that has no place with 9 alone.
 -- Assumes nothing.
 use mathlib.Core.Path.{_≡_, refl}
 use mathlib.Core.Bool.{Bool, true, false, not}
@@ -6,25 +6,31 @@ use Prim.Native.Nat.{ℕ, _*_}
 use lib.Dec.{ltb}
 use Rattle.laws.specs.Answer.{Answer, accepted, refused}
 use Rattle.laws.specs.Choice.{choose}
+use Rattle.laws.specs.Search.{Found, at, none}
 use Rattle.insn.specs.declared.Operand.{Operand}
 use Rattle.insn.specs.declared.Operand.the-variants.{D, Q, S, Imm, Float as Real, Other, Absent}
 use Rattle.fields.specs.Registers.{bits, vecBits}
 use Rattle.writings.specs.Forms.{ofLength, registerIn}
+use Rattle.writings.specs.Numbers.{orNine}
 
--- where a register is refused, it is with 8
-abbrev pub Eight : Answer ℕ → Type 0
-Eight (accepted d) = Unit {0}
-Eight (refused n) = n ≡ 8
+-- if it is refused, it is with the number
+abbrev pub RefusedOnly : ℕ → Answer ℕ → Type 0
+RefusedOnly number (accepted d) = Unit {0}
+RefusedOnly number (refused n) = n ≡ number
 
-sized : (quad b q : Bool) (d : ℕ) → Eight (ofLength quad (choose b (accepted (bits q d)) (refused 8)))
+pub found-nine : (f : Found) → RefusedOnly 9 (orNine f)
+found-nine (at k) = tt
+found-nine none = refl
+
+sized : (quad b q : Bool) (d : ℕ) → RefusedOnly 8 (ofLength quad (choose b (accepted (bits q d)) (refused 8)))
 sized quad true q d = go (choose quad q (not q))
   where
-    go : (b : Bool) → Eight (choose b (accepted d) (refused 8))
+    go : (b : Bool) → RefusedOnly 8 (choose b (accepted d) (refused 8))
     go true = tt
     go false = refl
 sized quad false q d = refl
 
-pub register-eight : (quad : Bool) (o : Operand) → Eight (registerIn quad o)
+pub register-eight : (quad : Bool) (o : Operand) → RefusedOnly 8 (registerIn quad o)
 unfolding registerIn vecBits
 register-eight quad (D n) = sized quad (ltb n 32) false n
 register-eight quad (Q n) = sized quad (ltb n 16) true (2 * n)
