@@ -53,6 +53,7 @@ abbrev withdrawn : Answer Pair → Answer Pair
 withdrawn (accepted p) = refused 9
 withdrawn (refused n) = refused n
 
+-- a D or Q register that there is
 abbrev isRegister : Answer Bits → Bool
 isRegister (accepted b) = true
 isRegister (refused n) = false
@@ -70,7 +71,7 @@ refusesZero edition i = choose (isLongMove (spelling i)) (withdrawn (writingIn e
 abbrev eightForAmount : Edition → Insn → Answer Pair
 eightForAmount edition i = choose (isNumber (placeAt i 2)) (insteadOf 9 8 (writingIn edition i)) (writingIn edition i)
 
--- it gives 9 where the first place is no D or Q register that there is
+-- it gives 9 where the first place is no such register
 abbrev nineForRegister : Edition → Insn → Answer Pair
 nineForRegister edition i = choose (isRegister (vecBits (placeAt i 0))) (writingIn edition i) (insteadOf 8 9 (writingIn edition i))
 
@@ -78,7 +79,7 @@ nineForRegister edition i = choose (isRegister (vecBits (placeAt i 0))) (writing
 abbrev refusesNegative : Edition → Insn → Answer Pair
 refusesNegative edition i = choose (valueOr (λ v. false) isNegative false (placeAt i 1)) (withdrawn (writingIn edition i)) (writingIn edition i)
 
--- VSHLL.S8 Q0, D1, #0, which is read as VMOVL.S8, and VMOV.F32 D0, #-1: both have a pair
+-- VSHLL.S8 Q0, D1, #0 has a pair, which is read as VMOVL.S8
 byZero : Insn
 byZero = insn (numberOf "vshll.s8") T1 0 3 (Q 0) (D 1) (Imm (pos 0))
 
@@ -95,6 +96,7 @@ zero-pair =
       same = refl;
     }
 
+-- VMOV.F32 D0, #-1 has a pair
 negative : Insn
 negative = insn (numberOf "vmov.f32") T1 0 2 (D 0) (Float (floatOf 0xf0)) Absent
 
@@ -111,7 +113,7 @@ negative-pair =
       same = refl;
     }
 
--- VSHR.S8 D0, D1, #9 is refused with 9, and VADD.I8 D32, D1, D2 with 8
+-- VSHR.S8 D0, D1, #9 is refused with 9
 tooFar : Insn
 tooFar = insn (numberOf "vshr.s8") T1 0 3 (D 0) (D 1) (Imm (pos 9))
 
@@ -119,6 +121,7 @@ far-nine : writing tooFar ≡ refused 9
 unfolding tooFar writing placeAt homeOf placeIn otherHome cellsOf same3 shiftRows shiftCells shiftClasses vmovl modimm diffRows diffCells names nameOf numberOf registerIn vecBits allThree shiftClassed amountIn amountReads firstFrom forbidden isEscape columnOf sizeCode rightEnd leftStart
 far-nine = refl
 
+-- VADD.I8 D32, D1, D2 is refused with 8
 noRegister : Insn
 noRegister = insn (numberOf "vadd.i8") T1 0 3 (D 32) (D 1) (D 2)
 

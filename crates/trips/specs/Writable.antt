@@ -35,7 +35,8 @@ pub data AnotherValue : Operand → Operand → Type 0 where
   another-number : (v w : ℤ) → w ≢ v → mag w < 2 ^ 63 → AnotherValue (Imm v) (Imm w)
   another-float : (x y : Float) → y ≢ x → fits binary64 y ≡ true → AnotherValue (Real x) (Real y)
 
--- the same record, but that one place within its count has another value of the same kind; what stands past the count is no part of it
+-- the same record, but that one place within its count has another value of the same kind;
+-- what stands past the count is no part of it
 pub record AnotherOfItsKind (i other : Insn) : Type 0 where
   pub mnemonic : other .mnemonic ≡ i .mnemonic
   pub mark : other .mark ≡ i .mark
@@ -51,21 +52,22 @@ pub record PairForAnother (edition : Edition) (i : Insn) : Type 0 where
   pub another : AnotherOfItsKind i other
   pub pair-for : PairFor edition other
 
+-- a refusal, with whatever number
 abbrev pub IsRefused : Answer Pair → Type 0
 IsRefused answer = (n : ℕ) × (answer ≡ refused n)
 
--- an answer to a record that is as the pairs have it: a refusal exactly if there is no pair,
+-- an answer to a record that is as the pairs say: a refusal exactly if there is no pair,
 -- and 9 exactly if there is none, but there would be one
-pub record AsPairsHave (edition : Edition) (i : Insn) (answer : Answer Pair) : Type 0 where
+pub record AsPairsSay (edition : Edition) (i : Insn) (answer : Answer Pair) : Type 0 where
   pub refused-if-none : ¬ PairFor edition i → IsRefused answer
   pub none-if-refused : IsRefused answer → ¬ PairFor edition i
   pub nine-if-another : ¬ PairFor edition i → PairForAnother edition i → answer ≡ refused 9
   pub another-if-nine : answer ≡ refused 9 → (¬ PairFor edition i) × PairForAnother edition i
 
--- a writer that answers so in each edition, to every record whose second place, the only one where a form takes a float,
--- has no float but an f64 (`Held`), as every record of the code has it
+-- a writer that answers so, in each edition, to every record that the code's types can hold: a float at its second place,
+-- the only one that takes a float, is an f64 (`Held`)
 abbrev pub GoesByPairs : (Edition → Insn → Answer Pair) → Type 0
-GoesByPairs write = (edition : Edition) (i : Insn) → Held (placeAt i 1) → AsPairsHave edition i (write edition i)
+GoesByPairs write = (edition : Edition) (i : Insn) → Held (placeAt i 1) → AsPairsSay edition i (write edition i)
 
 -- ours does
 abbrev pub NothingHeldBack : Type 0
