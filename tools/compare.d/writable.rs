@@ -1,5 +1,6 @@
-//! Writing, held to what pairs are read as: in each edition a record is refused exactly if the
-//! original reads no pair so, and with 9 exactly if it would read one with another value.
+//! Writing, held to what pairs are read as: a record is refused exactly if the original reads no
+//! pair so, and with 9 exactly if it would read one with another value; and the same under edition
+//! B, where the names of vfma and vfms have no pair.
 
 mod boundary;
 
@@ -29,7 +30,7 @@ fn due(carried: &Carried, edition: Edition, record: &Record) -> Standing {
 fn ours(edition: Edition, record: &Record) -> Standing {
     let number = match edition {
         Edition::B => boundary::B,
-        Edition::C => boundary::NUMBERS_OF_C[0],
+        Edition::C => boundary::NUMBERS_OF_C[record[2] as usize % boundary::NUMBERS_OF_C.len()],
     };
     match boundary::write(number, record, &mut [0; 2]) {
         0 => Standing::HasAPair,

@@ -27,7 +27,7 @@ use Rattle.trips.proofs.Values.{refused-nine, another}
 use Rattle.trips.proofs.Ones.{one-amount, one, one-held, one-immediate}
 use Rattle.trips.proofs.ByValue.{valueIn}
 
--- the tests of an amount, and of an immediate
+-- the tests of an amount, and of an immediate; a shift takes no float, so that the test beside its amount's is never asked
 abbrev amountBy : ℕ → ℤ → Answer ℕ
 amountBy k v = orNine (firstBelow 128 (λ (t : ℕ). amountReads (classAt k) (field 1 0 k) v (bit 6 t) (field 5 0 t)))
 

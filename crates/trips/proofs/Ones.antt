@@ -1,4 +1,4 @@
--- Values that have a place: 1 in every column of A7-12 that is not blank, 0 in VMOVL's, and imm8 = 1 in every row of A7-14 that is not.
+-- Values that have a place: 1 for every cell of A7-12 that is not blank, 0 for every such cell of VMOVL, imm8 = 1 for every such cell of A7-14.
 -- Assumes nothing.
 use mathlib.Core.Path.{_≡_, refl, sym, ap, _∙_}
 use mathlib.Core.Bool.{Bool, true, false}
@@ -33,7 +33,7 @@ use Rattle.write_immediates.specs.Shift.{vshllCell}
 use Rattle.trips.proofs.RoundModimm.{place-again}
 use Rattle.trips.proofs.Values.{has64Bits}
 
--- amounts: 1 has a place in every column that is not blank, and 0 in every one of VMOVL
+-- whether a place was found
 abbrev isAt : Found → Bool
 isAt (at k) = true
 isAt none = false
@@ -63,7 +63,7 @@ zero-amount k h e =
     let j = vshllCell k in
     is-at (placed (classAt j) (field 1 0 j) 0) _ (zero-placed k h e) (amount-place (classAt j) (field 1 0 j) 0 (omega arith) (omega arith))
 
--- immediates: imm8 = 1 in a row that is not blank
+-- what imm8 = 1 stands for in a cell of A7-14
 abbrev pub one : ℕ → Operand
 one k = operandIn (constantAt (k / 16) (k % 16)) 1
 

@@ -55,9 +55,6 @@ read-if-written edition i held (pair hw1 hw2) e =
       same = read-so i (r .mark) (i .address);
     }
 
-clash : {A : Type 0} (x : Answer Pair) (n : ℕ) (p : Pair) → x ≡ refused n → x ≡ accepted p → A
-clash x n p r e = never (cc)
-
 refused-if-none : (edition : Edition) (i : Insn) → Held (placeAt i 1) → ¬ PairFor edition i → IsRefused (writingIn edition i)
 refused-if-none edition i held none = go (writingIn edition i) refl
   where
@@ -66,7 +63,7 @@ refused-if-none edition i held none = go (writingIn edition i) refl
     go (refused n) e = (n, e)
 
 none-if-refused : (edition : Edition) (i : Insn) → IsRefused (writingIn edition i) → ¬ PairFor edition i
-none-if-refused edition i r c = let w = written-if-read edition i c in clash (writingIn edition i) (r .0) (w .0) (r .1) (w .1)
+none-if-refused edition i r c = let taken = written-if-read edition i c .1 in let lost = r .1 in never (cc)
 
 -- a record, in the home of its name
 abbrev homeFor : Insn → Home

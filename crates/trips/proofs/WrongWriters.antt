@@ -1,4 +1,5 @@
--- Four writers with one fault each, and that none of them goes by pairs: for each a record that antt computes the answers to.
+-- Four writers with one fault each, and the proof that none of them goes by pairs: for each a record, of which antt computes
+-- the refusal, or the reading of its pair.
 -- Assumes nothing.
 use mathlib.Core.Bool.{Bool, true, false}
 use mathlib.Core.Path.{_≡_, refl, sym, ap, _∙_}
@@ -71,7 +72,7 @@ refusesZero edition i = choose (isLongMove (spelling i)) (withdrawn (writingIn e
 abbrev eightForAmount : Edition → Insn → Answer Pair
 eightForAmount edition i = choose (isNumber (placeAt i 2)) (insteadOf 9 8 (writingIn edition i)) (writingIn edition i)
 
--- it gives 9 where the first place is no such register
+-- it gives 9 for 8 where the first place is no such register
 abbrev nineForRegister : Edition → Insn → Answer Pair
 nineForRegister edition i = choose (isRegister (vecBits (placeAt i 0))) (writingIn edition i) (insteadOf 8 9 (writingIn edition i))
 

@@ -39,13 +39,13 @@ impl<'a> Carried<'a> {
             && split(&read_as).is_some_and(|key| self.with_value.binary_search(&key).is_ok())
     }
 
-    /// Whether there is one for the record with some value of the same kind in its value's place.
+    /// Whether there is one for the record with some value of the same kind in its value's place;
+    /// vshll has other amounts wherever it has 0.
     pub fn has_with_another(&self, edition: Edition, record: &Record) -> bool {
         let within = record[3].min(3) as usize;
-        let Some(i) = (0..within).find(|&i| is_value(record[place(i)])) else { return false };
-        let zero = with_place(record, i, (record[place(i)], 0));
-        let some = split(&zero).is_some_and(|(shape, _)| self.shapes.binary_search(&shape).is_ok());
-        !edition.withholds_record(record, self.names) && (some || self.has(edition, &zero))
+        (0..within).any(|i| is_value(record[place(i)]))
+            && !edition.withholds_record(record, self.names)
+            && split(record).is_some_and(|(shape, _)| self.shapes.binary_search(&shape).is_ok())
     }
 
     /// vorr with equal sources as vmov, and vshll by 0 as vmovl.
