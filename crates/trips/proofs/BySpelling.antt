@@ -36,7 +36,7 @@ use Rattle.trips.specs.Spelling.{Spelling, spelling, spelled, withMark, 
 use Rattle.trips.proofs.Registers.{same-register}
 use Rattle.trips.proofs.Withheld.{canonical-withheld}
 
--- a spelling, in the table where its name is at home; and in an edition
+-- the pair of a spelling, in the table where its name is at home; and in an edition
 abbrev pub asked : Spelling → Answer Pair
 asked s =
     inHome (homeOf (nameOf (s .mnemonic)) (isNumber (s .third))) (nameOf (s .mnemonic)) (s .count) (s .first) (s .second) (s .third)

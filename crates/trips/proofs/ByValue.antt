@@ -74,33 +74,42 @@ in-form Vmov name count a b c = refl
 in-form Nowhere name count a b c = refl
 
 -- the form is the same for operands that are alike
+module _ (a b c a' b' c' : Operand) (aa : Alike a a') (bb : Alike b b') (cs : Alike c c') where
+  same3-alike : (k : ℕ) (name : String) (count : ℕ) → same3Writing k name count a b c ≡ same3Writing k name count a' b' c'
+  unfolding same3Writing
+  same3-alike k name count =
+      rw (alike-quad a a' aa, alike-register (isQuad a') a a' aa, alike-register (isQuad a') b b' bb, alike-register (isQuad a') c c' cs)
+
+  shift-alike : (k count : ℕ) (value : Answer ℕ) → shiftBy k count a b value ≡ shiftBy k count a' b' value
+  shift-alike k count value =
+      rw (
+        alike-quad a a' aa,
+        alike-register (classLengths (classAt k) (isQuad a') .d) a a' aa,
+        alike-register (classLengths (classAt k) (isQuad a') .m) b b' bb,
+      )
+
+  diff-alike : (shape : DiffShape) (k count : ℕ) → diffShaped shape k count a b c ≡ diffShaped shape k count a' b' c'
+  unfolding diffShaped
+  diff-alike shape k count =
+      rw (
+        alike-register (shapeLengths shape .d) a a' aa,
+        alike-register (shapeLengths shape .n) b b' bb,
+        alike-register (shapeLengths shape .m) c c' cs,
+      )
+
+-- two operands, or 8
+abbrev ofTwo : ℕ → Answer Pair → Answer Pair
+ofTwo count x = choose (eqb count 2) x (refused 8)
+
 pub form-alike : (a b c a' b' c' : Operand) → Alike a a' → Alike b b' → Alike c c' → (h : Home) (name : String) (count : ℕ) (value : Answer ℕ)
     → formIn h name count a b c value ≡ formIn h name count a' b' c' value
-unfolding same3Writing diffShaped vmovWriting vmovlWriting shiftClassed
-form-alike a b c a' b' c' aa bb cs (Same3 k) name count value =
-    rw (alike-quad a a' aa, alike-register (isQuad a') a a' aa, alike-register (isQuad a') b b' bb, alike-register (isQuad a') c c' cs)
-form-alike a b c a' b' c' aa bb cs (Shift k) name count value =
-    rw (
-      alike-quad a a' aa,
-      alike-register (classLengths (classAt k) (isQuad a') .d) a a' aa,
-      alike-register (classLengths (classAt k) (isQuad a') .m) b b' bb,
-    )
-form-alike a b c a' b' c' aa bb cs (Vmovl k) name count value =
-    rw (
-      alike-quad a a' aa,
-      alike-register (classLengths (classAt (vshllCell k)) (isQuad a') .d) a a' aa,
-      alike-register (classLengths (classAt (vshllCell k)) (isQuad a') .m) b b' bb,
-    )
+unfolding vmovWriting vmovlWriting shiftClassed
+form-alike a b c a' b' c' aa bb cs (Same3 k) name count value = same3-alike a b c a' b' c' aa bb cs k name count
+form-alike a b c a' b' c' aa bb cs (Shift k) name count value = shift-alike a b c a' b' c' aa bb cs k count value
+form-alike a b c a' b' c' aa bb cs (Vmovl k) name count value = ap (ofTwo count) (shift-alike a b c a' b' c' aa bb cs (vshllCell k) 3 _)
 form-alike a b c a' b' c' aa bb cs (Modimm k) name count value = rw (alike-quad a a' aa, alike-register (isQuad a') a a' aa)
-form-alike a b c a' b' c' aa bb cs (Diff k) name count value =
-    let shape = getD diffShapes (k / 4) longShape in
-    rw (
-      alike-register (shapeLengths shape .d) a a' aa,
-      alike-register (shapeLengths shape .n) b b' bb,
-      alike-register (shapeLengths shape .m) c c' cs,
-    )
-form-alike a b c a' b' c' aa bb cs Vmov name count value =
-    rw (alike-quad a a' aa, alike-register (isQuad a') a a' aa, alike-register (isQuad a') b b' bb)
+form-alike a b c a' b' c' aa bb cs (Diff k) name count value = diff-alike a b c a' b' c' aa bb cs (getD diffShapes (k / 4) longShape) k count
+form-alike a b c a' b' c' aa bb cs Vmov name count value = ap (ofTwo count) (same3-alike a b b a' b' b' aa bb bb vorrCell "vorr" 3)
 form-alike a b c a' b' c' aa bb cs Nowhere name count value = refl
 
 -- a form that goes by the answer to the value, or regardless of it
@@ -113,7 +122,7 @@ taken-plain : (form : Answer ℕ → Answer Pair) → Through form → (t : ℕ)
 taken-plain form (goes-by f took lost) t = ap (isRefusal 9) (took t)
 taken-plain form (regardless x plain all) t = ap (isRefusal 9) (all (accepted t)) ∙ plain
 
--- one value taken and another refused: it is by that value
+-- one value taken and another refused: it is the value that is refused
 pub value-refused : (form : Answer ℕ → Answer Pair) → Through form → (v w : Answer ℕ) (p : Pair) (n : ℕ) → form w ≡ accepted p → form v ≡ refused n
     → ((t : ℕ) × (w ≡ accepted t)) × (v ≡ refused n)
 value-refused form (goes-by f took lost) (accepted s) w p n e r = let q = took s in never (cc)
@@ -177,19 +186,22 @@ diff-plain shape cell count a b c =
     form : (r : Three) → isRefusal 9 (diffForm cell r) ≡ false
     form (numbers x y z) = refl
 
-chosen-plain : (t : Bool) (x : Answer Pair) → isRefusal 9 x ≡ false → isRefusal 9 (choose t x (refused 8)) ≡ false
-chosen-plain true x e = e
-chosen-plain false x e = refl
+two-plain : (count : ℕ) (x : Answer Pair) → isRefusal 9 x ≡ false → isRefusal 9 (ofTwo count x) ≡ false
+two-plain count x e = go (eqb count 2)
+  where
+    go : (t : Bool) → isRefusal 9 (choose t x (refused 8)) ≡ false
+    go true = e
+    go false = refl
 
 vmovl-plain : (k count : ℕ) (a b : Operand) → k < 8 → eqt (cell4 vmovl k) "" ≡ false → isRefusal 9 (vmovlWriting k count a b) ≡ false
 unfolding vmovlWriting shiftClassed
 vmovl-plain k count a b h e =
     let zero = zero-amount k h e in
-    chosen-plain (eqb count 2) _ (rw (zero .1) (taken-plain _ (shifted-through (vshllCell k) 3 a b) (zero .0)))
+    two-plain count _ (rw (zero .1) (taken-plain _ (shifted-through (vshllCell k) 3 a b) (zero .0)))
 
 vmov-plain : (count : ℕ) (a b : Operand) → isRefusal 9 (vmovWriting count a b) ≡ false
 unfolding vmovWriting
-vmov-plain count a b = chosen-plain (eqb count 2) _ (same3-plain vorrCell "vorr" 3 a b b)
+vmov-plain count a b = two-plain count _ (same3-plain vorrCell "vorr" 3 a b b)
 
 -- every home's form
 pub through : (m : ℕ) (number : Bool) (h : Home) → homeOf (nameOf m) number ≡ h → (count : ℕ) (a b c : Operand) → Through (formIn h (nameOf m) count a b c)

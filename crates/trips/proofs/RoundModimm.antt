@@ -12,7 +12,6 @@ use lib.Text.{eqt}
 use borrow.Author.Tests.{eq-eqb, eqb-true}
 use Rattle.laws.specs.Answer.{Answer, accepted, refused}
 use Rattle.laws.specs.Choice.{both}
-use Rattle.laws.specs.Search.{Found, at, none}
 use Rattle.laws.specs.Signed.{twosComplement}
 use Rattle.laws.proofs.Digits.{digit}
 use Rattle.laws.proofs.Range.{values, agree}
@@ -56,6 +55,7 @@ use Rattle.trips.specs.Spelling.{Held, movedName, canonical, withMark}
 use Rattle.encode.specs.Writing.{writing}
 use Rattle.trips.specs.Promises.{ReadsAs}
 use Rattle.trips.proofs.Canonical.{spelt, as-spelt}
+use Rattle.writings.proofs.Only.{found-at}
 use Rattle.writings.proofs.Pairs.{hw1Of, hw2Of}
 use Rattle.immediate_values.proofs.Immediates.{op, cmode, imm8, row-of, says, isFloat, float-rows, only-number, spelled-back, equal, float-found}
 use Rattle.trips.proofs.Registers.{register-back, register-forth, quad-of}
@@ -129,10 +129,6 @@ module _ (t d : ℕ) (quad : Bool) (ht : t < 8192) (hd : d < 32) where
   pair-reads hw1 hw2 address e = rw (← ap hw1Of e, ← ap hw2Of e) (reads address, f1 .halfword, f2 .halfword)
 
 -- an immediate that was found
-found-at : (f : Found) (t : ℕ) → orNine f ≡ accepted t → f ≡ at t
-found-at (at k) t e = ap at (cc)
-found-at none t e = never (cc)
-
 record Carried (name : String) (value : Operand) (t : ℕ) : Type 0 where
   within : t < 8192
   spelled : cellAt modimm (op t) (cmode t) ≡ name

@@ -20,7 +20,6 @@ use Rattle.insn.specs.declared.Operand.the-variants.{D, Q, S, Imm, Float, Other
 use Rattle.tables.specs.Cells.{cellAt}
 use Rattle.names.specs.Names.{nameOf, numberOf}
 use Rattle.homes.specs.Home.{homeOf}
-use Rattle.laws.specs.Search.{Found, at, none}
 use Rattle.immediate_tables.specs.Shift.{shiftRows, shiftCells, shiftClasses, vmovl}
 use Rattle.tables.specs.declared.ShiftClass.{ShiftClass}
 use Rattle.tables.specs.declared.ShiftClass.the-variants.{Right, Long}
@@ -40,13 +39,13 @@ use Rattle.readings.specs.Operands as Read
 use Rattle.read_immediates.specs.Shift.{shifted, shiftOf}
 use Rattle.decode.specs.Reading.{reading}
 use Rattle.writings.specs.Forms.{pair, isQuad, registerIn, Three, allThree, numbers}
-use Rattle.writings.specs.Numbers.{orNine}
 use Rattle.write_immediates.specs.Shift.{shiftPair, bitB, shiftForm, shiftClassed, shiftWriting, vshllCell, vmovlWriting}
 use Rattle.amount_values.specs.Amounts.{amountReads, amountIn}
 use Rattle.trips.specs.Spelling.{sameRegister, isZero, movedName, canonical}
 use Rattle.trips.specs.Promises.{ReadsAs}
 use Rattle.amount_values.proofs.Amounts.{Reads, says}
 use Rattle.trips.proofs.Canonical.{spelt, as-spelt, as-vmovl}
+use Rattle.writings.proofs.Only.{found-at}
 use Rattle.writings.proofs.Pairs.{hw1Of, hw2Of}
 use Rattle.trips.proofs.Registers.{threefold, then, register-back}
 use Rattle.trips.proofs.Routing.{number-back}
@@ -87,10 +86,6 @@ module _ (k b t d m : ℕ) (hb : b < 2) (ht : t < 128) (hd : d < 32) (hm : m < 3
       × (hw1 < 65536) × (hw2 < 65536)
   unfolding shiftPair
   pair-reads hw1 hw2 address e = rw (← ap hw1Of e, ← ap hw2Of e) (reads address, f1 .halfword, f2 .halfword)
-
-pub found-at : (f : Found) (t : ℕ) → orNine f ≡ accepted t → f ≡ at t
-found-at (at k) t e = ap at (cc)
-found-at none t e = never (cc)
 
 record Carried (class : ShiftClass) (column : ℕ) (c : Operand) (t : ℕ) : Type 0 where
   v : ℤ

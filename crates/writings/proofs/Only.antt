@@ -1,12 +1,13 @@
 -- Which refusals an answer may have: a register is refused with 8 alone, a value that has no place with 9 alone.
 -- Assumes nothing.
-use mathlib.Core.Path.{_≡_, refl}
+use mathlib.Core.Path.{_≡_, refl, ap}
 use mathlib.Core.Bool.{Bool, true, false, not}
 use Prim.Native.Nat.{ℕ, _*_}
 use lib.Dec.{ltb}
 use Rattle.laws.specs.Answer.{Answer, accepted, refused}
 use Rattle.laws.specs.Choice.{choose}
 use Rattle.laws.specs.Search.{Found, at, none}
+use Rattle.laws.proofs.Never.{never}
 use Rattle.insn.specs.declared.Operand.{Operand}
 use Rattle.insn.specs.declared.Operand.the-variants.{D, Q, S, Imm, Float as Real, Other, Absent}
 use Rattle.fields.specs.Registers.{bits, vecBits}
@@ -21,6 +22,11 @@ RefusedOnly number (refused n) = n ≡ number
 pub found-nine : (f : Found) → RefusedOnly 9 (orNine f)
 found-nine (at k) = tt
 found-nine none = refl
+
+-- and a place that is accepted was found
+pub found-at : (f : Found) (t : ℕ) → orNine f ≡ accepted t → f ≡ at t
+found-at (at k) t e = ap at (cc)
+found-at none t e = never (cc)
 
 sized : (quad b q : Bool) (d : ℕ) → RefusedOnly 8 (ofLength quad (choose b (accepted (bits q d)) (refused 8)))
 sized quad true q d = go (choose quad q (not q))
