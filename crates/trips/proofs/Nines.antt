@@ -7,7 +7,7 @@ use Prim.Native.String.{String}
 use lib.IntN.{ℤ, pos}
 use lib.Text.{eqt}
 use Rattle.laws.specs.Answer.{Answer, accepted, refused}
-use Rattle.laws.specs.Search.{firstBelow}
+use Rattle.laws.specs.Search.{Found, firstBelow}
 use Rattle.laws.proofs.Never.{never}
 use Rattle.insn.specs.declared.Operand.{Operand}
 use Rattle.insn.specs.declared.Operand.the-variants.{Imm, Float}
@@ -28,11 +28,14 @@ use Rattle.trips.proofs.Ones.{one-amount, one, one-held, one-immediate}
 use Rattle.trips.proofs.ByValue.{valueIn}
 
 -- the tests of an amount, and of an immediate; a shift takes no float, so that the test beside its amount's is never asked
+abbrev amountPlace : ℕ → ℤ → Found
+amountPlace k v = firstBelow 128 (λ (t : ℕ). amountReads (classAt k) (field 1 0 k) v (bit 6 t) (field 5 0 t))
+
 abbrev amountBy : ℕ → ℤ → Answer ℕ
-amountBy k v = orNine (firstBelow 128 (λ (t : ℕ). amountReads (classAt k) (field 1 0 k) v (bit 6 t) (field 5 0 t)))
+amountBy k v = orNine (amountPlace k v)
 
 amount-alone : (k : ℕ) (v : ℤ) → RefusedOnly 9 (amountBy k v)
-amount-alone k v = found-nine (firstBelow 128 (λ (t : ℕ). amountReads (classAt k) (field 1 0 k) v (bit 6 t) (field 5 0 t)))
+amount-alone k v = found-nine (amountPlace k v)
 
 immediate-alone : (name : String) (o : Operand) → RefusedOnly 9 (immediateOf name o)
 immediate-alone name o = found-nine (firstBelow 8192 (λ (t : ℕ). immediateReads name o (bit 12 t) (field 11 8 t) (field 7 0 t)))

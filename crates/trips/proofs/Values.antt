@@ -38,6 +38,9 @@ data Valued (floats : Bool) (f : ℤ → Answer ℕ) (g : Ieee.Float → Answer 
   is-number : floats ≡ false → (v : ℤ) → o ≡ Imm v → f v ≡ answer → Valued floats f g o answer
   is-float : floats ≡ true → (x : Ieee.Float) → o ≡ Float x → g x ≡ answer → Valued floats f g o answer
 
+not-eight : {A : Type 0} (answer : Answer ℕ) → isRefusal 8 answer ≡ false → refused 8 ≡ answer → A
+not-eight answer n e = wrong (sym n ∙ sym (ap (isRefusal 8) e))
+
 differs : {A : Type 0} (h : A → Answer ℕ) (x y : A) (t : ℕ) → h x ≡ refused 9 → h y ≡ accepted t → y ≢ x
 differs h x y t r e q = let same : h y ≡ h x = ap h q in never (cc)
 
@@ -45,14 +48,14 @@ module _ (f : ℤ → Answer ℕ) (g : Ieee.Float → Answer ℕ) where
   -- what is not refused with 8 is of that kind
   valued : (floats : Bool) (o : Operand) (answer : Answer ℕ) → isRefusal 8 answer ≡ false → valueBy floats f g o ≡ answer → Valued floats f g o answer
   valued false (Imm v) answer n e = is-number refl v refl e
-  valued true (Imm v) answer n e = wrong (sym n ∙ sym (ap (isRefusal 8) e))
+  valued true (Imm v) answer n e = not-eight answer n e
   valued true (Float x) answer n e = is-float refl x refl e
-  valued false (Float x) answer n e = wrong (sym n ∙ sym (ap (isRefusal 8) e))
-  valued floats (D k) answer n e = wrong (sym n ∙ sym (ap (isRefusal 8) e))
-  valued floats (Q k) answer n e = wrong (sym n ∙ sym (ap (isRefusal 8) e))
-  valued floats (S k) answer n e = wrong (sym n ∙ sym (ap (isRefusal 8) e))
-  valued floats Other answer n e = wrong (sym n ∙ sym (ap (isRefusal 8) e))
-  valued floats Absent answer n e = wrong (sym n ∙ sym (ap (isRefusal 8) e))
+  valued false (Float x) answer n e = not-eight answer n e
+  valued floats (D k) answer n e = not-eight answer n e
+  valued floats (Q k) answer n e = not-eight answer n e
+  valued floats (S k) answer n e = not-eight answer n e
+  valued floats Other answer n e = not-eight answer n e
+  valued floats Absent answer n e = not-eight answer n e
 
   -- of two values of one kind, one taken and one refused: refused with 9
   pub refused-nine : (floats : Bool) (o p : Operand) (n t : ℕ) → ((v : ℤ) → RefusedOnly 9 (f v)) → ((x : Ieee.Float) → RefusedOnly 9 (g x)) → Alike o p

@@ -1,4 +1,4 @@
--- The claims of specs/Writable.antt, from the two round trips.
+-- The promise of specs/Writable.antt, from the two round trips.
 -- Assumes nothing.
 use mathlib.Core.Path.{_≡_, refl, sym, ap, _∙_}
 use mathlib.Core.Bool.{Bool, true, false}
@@ -65,7 +65,7 @@ refused-if-none edition i held none = go (writingIn edition i) refl
 none-if-refused : (edition : Edition) (i : Insn) → IsRefused (writingIn edition i) → ¬ PairFor edition i
 none-if-refused edition i r c = let taken = written-if-read edition i c .1 in let lost = r .1 in never (cc)
 
--- a record, in the home of its name
+-- the home of a record's name, what that makes of a value's answer, and the answer to the record's own
 abbrev homeFor : Insn → Home
 homeFor i = homeOf (nameOf (i .mnemonic)) (isNumber (placeAt i 2))
 
@@ -82,26 +82,26 @@ form-is i = in-form (homeFor i) (nameOf (i .mnemonic)) (i .count) (placeAt i 0) 
 form-through : (i : Insn) → Through (formFor i)
 form-through i = through (i .mnemonic) (isNumber (placeAt i 2)) (homeFor i) refl (i .count) (placeAt i 0) (placeAt i 1) (placeAt i 2)
 
+-- 9 is for its value, and the form takes any value that has a place
+for-value : (i : Insn) → writing i ≡ refused 9 → (valueFor i ≡ refused 9) × ((t : ℕ) → (p : Pair) × (formFor i (accepted t) ≡ accepted p))
+for-value i r = value-nine (formFor i) (form-through i) (valueFor i) (sym (form-is i) ∙ r)
+
 module _ (i j : Insn) (d : AnotherOfItsKind i j) where
   -- it is at home where the record is
   same-home : homeFor j ≡ homeFor i
   same-home =
-      ap (λ (m : ℕ). homeOf (nameOf m) (isNumber (placeAt j 2))) (d .mnemonic)
-      ∙ ap (homeOf (nameOf (i .mnemonic))) (sym (alike-number (placeAt i 2) (placeAt j 2) (alike-at i j d 2)))
+      let number = sym (alike-number (placeAt i 2) (placeAt j 2) (alike-at i j d 2)) in
+      λ k. homeOf (nameOf (d .mnemonic k)) (number k)
 
   same-form : (value : Answer ℕ) → formFor j value ≡ formFor i value
   same-form value =
-      ap (λ (h : Home). formIn h (nameOf (j .mnemonic)) (j .count) (placeAt j 0) (placeAt j 1) (placeAt j 2) value) same-home
-      ∙ ap (λ (m : ℕ). formIn (homeFor i) (nameOf m) (j .count) (placeAt j 0) (placeAt j 1) (placeAt j 2) value) (d .mnemonic)
-      ∙ ap (λ (n : ℕ). formIn (homeFor i) (nameOf (i .mnemonic)) n (placeAt j 0) (placeAt j 1) (placeAt j 2) value) (d .count)
+      (λ k. formIn (same-home k) (nameOf (d .mnemonic k)) (d .count k) (placeAt j 0) (placeAt j 1) (placeAt j 2) value)
       ∙ sym
       (form-alike (placeAt i 0) (placeAt i 1) (placeAt i 2) (placeAt j 0) (placeAt j 1) (placeAt j 2)
       (alike-at i j d 0) (alike-at i j d 1) (alike-at i j d 2) (homeFor i) (nameOf (i .mnemonic)) (i .count) value)
 
   same-value : valueFor j ≡ valueIn (homeFor i) (nameOf (i .mnemonic)) (placeAt j 1) (placeAt j 2)
-  same-value =
-      ap (λ (h : Home). valueIn h (nameOf (j .mnemonic)) (placeAt j 1) (placeAt j 2)) same-home
-      ∙ ap (λ (m : ℕ). valueIn (homeFor i) (nameOf m) (placeAt j 1) (placeAt j 2)) (d .mnemonic)
+  same-value = λ k. valueIn (same-home k) (nameOf (d .mnemonic k)) (placeAt j 1) (placeAt j 2)
 
   -- one written and the other refused: refused with 9
   nine-for : (p : Pair) (n : ℕ) → writing j ≡ accepted p → writing i ≡ refused n → n ≡ 9
@@ -171,7 +171,7 @@ module _ (edition : Edition) (i : Insn) (kept : withholds edition (nameOf (i .mn
 
   pair-by : (t : ℕ) → valueIn (homeFor i) (nameOf (i .mnemonic)) (placeAt j 1) (placeAt j 2) ≡ accepted t → Held (placeAt j 1) → PairForAnother edition i
   pair-by t e held =
-      let taken = value-nine (formFor i) (form-through i) (valueFor i) (sym (form-is i) ∙ r) .1 t in
+      let taken = for-value i r .1 t in
       let w : writing j ≡ accepted (taken .0) = form-is j ∙ ap (formFor j) (same-value i j d ∙ e) ∙ same-form i j d (accepted t) ∙ taken .1 in
       record { other = j; another = d; pair-for = read-if-written edition j held (taken .0) (rw kept w) }
 
@@ -180,7 +180,7 @@ another-if-nine edition i held r = go (withholds edition (nameOf (i .mnemonic)))
   where
     go : (b : Bool) → withholds edition (nameOf (i .mnemonic)) ≡ b → choose b (refused 7) (writing i) ≡ refused 9 → PairForAnother edition i
     go true kept e = wrong (ap (isRefusal 9) e)
-    go false kept e = by (mended (i .mnemonic) (isNumber (placeAt i 2)) (homeFor i) refl (placeAt i 1) (placeAt i 2) (value-nine (formFor i) (form-through i) (valueFor i) (sym (form-is i) ∙ e) .0))
+    go false kept e = by (mended (i .mnemonic) (isNumber (placeAt i 2)) (homeFor i) refl (placeAt i 1) (placeAt i 2) (for-value i e .0))
       where
         by : Mended (homeFor i) (nameOf (i .mnemonic)) (placeAt i 1) (placeAt i 2) → PairForAnother edition i
         by (by-second o a t q) =
