@@ -1,6 +1,7 @@
 //! How fast pairs are stepped beside a plain interpreter: the same pairs on the same registers, in
-//! turns. Ours is the program named by the argument, and the time of its start is taken off. Before
-//! that the two must write the same line, for the rounds that the gate runs too.
+//! turns, first those of the names with registers of one length, then of those with registers of
+//! different lengths. Ours is the program named by the argument, and the time of its start is taken
+//! off. Before that the two must write the same line, for the rounds that the gate runs too.
 
 use oracle::clock::{beside, ROUNDS};
 use oracle::isa::{FpReg, Operand};
@@ -9,45 +10,52 @@ use std::hint::black_box;
 use std::io::Write;
 use std::process::{Command, ExitCode, Stdio};
 
-/// The pairs, and D0 to D31 at the start, as our program reads them.
+/// D0 to D31 at the start, and the pairs, as our program reads them.
 const CASES: &str = include_str!("../../crates/step_bench/stdin");
 /// The line that the gate holds our program to, and its rounds.
 const GATE: &str = include_str!("../../crates/step_bench/stdout");
 const GATE_TIMES: &str = include_str!("../../crates/step_bench/args");
 
+/// How many pairs, the first of them, have registers of one length.
+const ALIKE: usize = 80;
 /// How often the list of pairs is stepped in one measurement.
 const TIMES: usize = 5_000;
 
+type Pairs = [[u16; 2]];
+
 fn main() -> ExitCode {
     let program = std::env::args().nth(1).expect("the program that steps pairs");
-    let ours = |times: usize| {
-        let mut command = Command::new(&program);
-        let piped = command.arg(times.to_string()).stdin(Stdio::piped()).stdout(Stdio::piped());
-        let mut child = piped.spawn().expect("our program runs");
-        child.stdin.take().unwrap().write_all(CASES.as_bytes()).expect("it reads the cases");
-        let output = child.wait_with_output().expect("our program ends");
-        String::from_utf8_lossy(&output.stdout).into_owned()
-    };
     let (list, start) = cases();
+    let (alike, unlike) = list.split_at(ALIKE);
     let mut report = Report::default();
     let gate = GATE_TIMES.trim().parse().expect("the rounds of the gate");
     report.expect(GATE.to_owned(), interpreted(&list, start, gate), || "the gate's line".to_owned());
-    for times in [0, 1, 2, gate, TIMES] {
-        let theirs = interpreted(&list, start, times);
-        report.expect(ours(times), theirs, || format!("{times} rounds of the list"));
+    for (what, list) in [("all", &list[..]), ("one length", alike), ("different lengths", unlike)] {
+        for times in [0, 1, 2, gate, TIMES] {
+            let theirs = interpreted(list, start, times);
+            let what = || format!("{what}, {times} rounds of the list");
+            report.expect(stepped(&program, list, start, times), theirs, what);
+        }
     }
+    for (what, list) in [("one length", alike), ("different lengths", unlike)] {
+        tell(what, &program, list, start);
+    }
+    report.status()
+}
 
+/// The one line of a measurement.
+fn tell(what: &str, program: &str, list: &Pairs, start: [u64; 32]) {
     let pairs = TIMES * list.len();
-    let interpret = || drop(black_box(interpreted(&list, start, TIMES)));
-    let (interpreter, whole) = beside(pairs, interpret, || drop(ours(TIMES)));
-    let (_, begin) = beside(pairs, || (), || drop(ours(0)));
+    let interpret = || drop(black_box(interpreted(list, start, TIMES)));
+    let ours = |times| drop(stepped(program, list, start, times));
+    let (interpreter, whole) = beside(pairs, interpret, || ours(TIMES));
+    let (_, begin) = beside(pairs, || (), || ours(0));
     let ours = whole - begin;
     println!(
-        "speed_step: {pairs} pairs, median of {ROUNDS} rounds: \
+        "speed_step: {what}, {pairs} pairs, median of {ROUNDS} rounds: \
          interpreter {interpreter:.1} ns, ours {ours:.1} ns, {:.1} times as fast",
         interpreter / ours
     );
-    report.status()
 }
 
 /// The pairs of the cases, and the registers at the start.
@@ -63,7 +71,19 @@ fn cases() -> (Vec<[u16; 2]>, [u64; 32]) {
 }
 
 /// The line that our program writes.
-fn interpreted(list: &[[u16; 2]], start: [u64; 32], times: usize) -> String {
+fn stepped(program: &str, list: &Pairs, start: [u64; 32], times: usize) -> String {
+    let registers: String = start.iter().map(|x| format!("{x:016x}\n")).collect();
+    let pairs: String = list.iter().map(|[a, b]| format!("{a:04x} {b:04x}\n")).collect();
+    let mut command = Command::new(program);
+    let piped = command.arg(times.to_string()).stdin(Stdio::piped()).stdout(Stdio::piped());
+    let mut child = piped.spawn().expect("our program runs");
+    child.stdin.take().unwrap().write_all((registers + &pairs).as_bytes()).expect("it reads them");
+    let output = child.wait_with_output().expect("our program ends");
+    String::from_utf8_lossy(&output.stdout).into_owned()
+}
+
+/// The line that it has to write.
+fn interpreted(list: &Pairs, start: [u64; 32], times: usize) -> String {
     let mut file = start;
     let mut done = 0;
     for _ in 0..times {
@@ -82,23 +102,29 @@ fn step(file: &mut [u64; 32], hw1: u16, hw2: u16) -> Option<()> {
     let mut operands = insn.operands.as_slice();
     let (target, second, third) = (operands.next()?, operands.next()?, operands.next());
     let (d, count) = doublewords(target)?;
+    let (n, m) = (doublewords(second), third.and_then(doublewords));
+    if n.is_some_and(|n| n.1 != count) || m.is_some_and(|m| m.1 != count) {
+        return unlike(file, (stem, kind), (d, count), n?, third);
+    }
     for half in 0..count {
-        let source = |operand| doublewords(operand).map(|(at, _)| file[at + half]);
+        let source = |(at, _)| file[at + half];
         let old = file[d + half];
         file[d + half] = match (second, third) {
             (Operand::Imm(v), None) => constant(stem, repeated(width(kind), v as u64), old)?,
             (Operand::FpImm(v), None) => repeated(32, (v as f32).to_bits().into()),
-            (n, None) => source(n)?,
-            (n, Some(Operand::Imm(k))) => shifted(stem, kind, source(n)?, k as u32)?,
-            (n, Some(m)) if kind.is_empty() => bitwise(stem, old, source(n)?, source(m)?)?,
-            (n, Some(m)) => lanes(stem, kind, old, source(n)?, source(m)?)?,
+            (_, None) => source(n?),
+            (_, Some(Operand::Imm(k))) => shifted(stem, kind, source(n?), k as u32)?,
+            (_, Some(_)) if kind.is_empty() => bitwise(stem, old, source(n?), source(m?))?,
+            (_, Some(_)) => lanes(stem, kind, old, source(n?), source(m?))?,
         };
     }
     Some(())
 }
 
 /// A register's first doubleword, and how many it has.
-fn doublewords(operand: Operand) -> Option<(usize, usize)> {
+type Register = (usize, usize);
+
+fn doublewords(operand: Operand) -> Option<Register> {
     match operand {
         Operand::FpReg(FpReg::D(n)) => Some((n.into(), 1)),
         Operand::FpReg(FpReg::Q(n)) => Some((2 * usize::from(n), 2)),
@@ -186,4 +212,60 @@ fn lanes(stem: &str, kind: &str, d: u64, n: u64, m: u64) -> Option<u64> {
         "vtst" => each(w, d, n, m, |_, n, m| ones(n & m != 0)),
         _ => return None,
     })
+}
+
+/// One pair with registers of different lengths. A half of it takes a doubleword of a quadword, and
+/// half of a doubleword; both halves are worked out before the target is written.
+fn unlike(
+    file: &mut [u64; 32],
+    name: (&str, &str),
+    target: Register,
+    second: Register,
+    third: Option<Operand>,
+) -> Option<()> {
+    let half = |i: usize| {
+        let source = |(at, count)| if count == 2 { file[at + i] } else { file[at] >> (32 * i) };
+        let m = match third {
+            None => 0,
+            Some(Operand::Imm(k)) => k as u64,
+            Some(m) => source(doublewords(m)?),
+        };
+        mixed(name, source(target), source(second), m)
+    };
+    let (low, high) = (half(0)?, half(1)?);
+    match target {
+        (d, 2) => file[d..d + 2].copy_from_slice(&[low, high]),
+        (d, _) => file[d] = low | high << 32,
+    }
+    Some(())
+}
+
+/// Half of what a name makes of short lanes, of w bits, and long ones; m may be an amount.
+fn mixed((stem, kind): (&str, &str), d: u64, n: u64, m: u64) -> Option<u64> {
+    let w = if kind.starts_with('i') { width(kind) / 2 } else { width(kind) };
+    let mask = u64::MAX >> (64 - w);
+    let short = |x: u64, i: u32| whole(w, kind.starts_with('s'), x >> (w * i) & mask) as u64;
+    let long = |x: u64, i: u32| x >> (2 * w * i);
+    let product = |i| short(n, i).wrapping_mul(short(m, i));
+    Some(match stem {
+        "vaddl" => packed(w, 2 * w, |i| short(n, i).wrapping_add(short(m, i))),
+        "vsubl" => packed(w, 2 * w, |i| short(n, i).wrapping_sub(short(m, i))),
+        "vmull" => packed(w, 2 * w, product),
+        "vmlal" => packed(w, 2 * w, |i| long(d, i).wrapping_add(product(i))),
+        "vmlsl" => packed(w, 2 * w, |i| long(d, i).wrapping_sub(product(i))),
+        "vaddw" => packed(w, 2 * w, |i| long(n, i).wrapping_add(short(m, i))),
+        "vsubw" => packed(w, 2 * w, |i| long(n, i).wrapping_sub(short(m, i))),
+        "vmovl" => packed(w, 2 * w, |i| short(n, i)),
+        "vshll" => packed(w, 2 * w, |i| short(n, i) << m),
+        "vaddhn" => packed(w, w, |i| long(n, i).wrapping_add(long(m, i)) >> w),
+        "vsubhn" => packed(w, w, |i| long(n, i).wrapping_sub(long(m, i)) >> w),
+        "vshrn" => packed(w, w, |i| long(n, i) >> m),
+        _ => return None,
+    })
+}
+
+/// The lowest bits, as many as a lane of the result has, of each number; 32 / w of them are a half.
+fn packed(w: u32, bits: u32, f: impl Fn(u32) -> u64) -> u64 {
+    let mask = u64::MAX >> (64 - bits);
+    (0..32 / w).fold(0, |all, i| all | (f(i) & mask) << (bits * i))
 }

@@ -29,7 +29,7 @@ module _ (w a b : ℕ) where
   minus-down h = rw (minus-is a b, lt-ltb a b h)
 
   -- b added again gives a, modulo 2^w
-  back : (modulo w (pos a -ℤ pos b) + b) % 2 ^ w ≡ a % 2 ^ w
+  pub back : (modulo w (pos a -ℤ pos b) + b) % 2 ^ w ≡ a % 2 ^ w
   back =
       sides b a
       (λ h. let t = b - suc a in

@@ -4,7 +4,7 @@ use crate::arith::ones;
 use insn::Sign;
 use insn::signed::signed_of;
 ghost use mathlib.Core.Path.{_≡_};
-ghost use Prim.Native.Nat.{_^_, _<_, _≤_};
+ghost use Prim.Native.Nat.{_*_, _^_, _<_, _≤_};
 ghost use lib.Signed.{ltZ, shrZ};
 ghost use Rattle.insn.specs.declared.Sign.the-variants.{Signed};
 ghost use Rattle.arithmetic.specs.Whole.{readAs, greater, lesser};
@@ -71,5 +71,16 @@ pub fn right(s: Sign, w: u32, x: u64, k: u32) -> u64
                 lane_of(w, signed(w, x) >> 63)
             }
         }
+    }
+}
+
+// A lane with twice the bits, extended by its sign.
+pub fn extend(s: Sign, w: u32, x: u64) -> u64
+    requires { ⌜ ((0 < w) × (w ≤ 32)) × (x < 2 ^ w) ⌝ }
+    ensures { λ r. ⌜ r ≡ modulo (2 * w) (readAs s w x) ⌝ }
+{
+    match s {
+        Sign::Unsigned => x,
+        Sign::Signed => lane_of(2 * w, signed(w, x)),
     }
 }

@@ -14,11 +14,15 @@ use Rattle.names.proofs.Spellings.{no-name}
 use Rattle.lanes.specs.declared.LaneOp.the-variants.{Add, Sub, Mul, Mla, Mls, Max, Min, Cgt, Cge, Ceq, Tst}
 use Rattle.insn.specs.declared.Sign.the-variants.{Unsigned, Signed}
 use Rattle.insn.specs.declared.Width.the-variants.{B8, B16, B32, B64}
+use Rattle.double_lanes.specs.declared.LongOp.the-variants as long
+use Rattle.double_lanes.specs.declared.WideOp.the-variants as wide
+use Rattle.double_lanes.specs.declared.NarrowOp.the-variants as narrow
+use Rattle.double_lanes.specs.declared.DoubleOp.the-variants.{Long, Wide, Narrow}
 use Rattle.operations.specs.declared.BitOp.the-variants.{And, Orr, Eor, Bic, Orn, Bsl, Bit, Bif}
 use Rattle.operations.specs.declared.ConstantOp.the-variants as constant
-use Rattle.forms.specs.declared.Direction.the-variants.{Left, Right}
+use Rattle.forms.specs.declared.Direction.the-variants as way
 use Rattle.forms.specs.declared.Form.{Form}
-use Rattle.forms.specs.declared.Form.the-variants.{Lanes, Bits, Copy, Shift, Number, Float, Nothing}
+use Rattle.forms.specs.declared.Form.the-variants.{Lanes, Bits, Copy, Shift, Double, Extend, Number, Float, Nothing}
 use Rattle.forms.specs.Forms.{groups, namedForms, formOf}
 
 unfoldable pub numbered : List Form
@@ -54,16 +58,21 @@ numbered =
     Lanes Mls B8 ∷ Lanes Mls B16 ∷ Lanes Mls B32 ∷  -- 152
     Nothing ∷ Nothing ∷ Nothing ∷ Nothing ∷ Nothing ∷ Nothing ∷ Nothing ∷ Nothing ∷ Nothing ∷ Nothing ∷ Nothing ∷ Nothing ∷  -- 155
     Nothing ∷ Nothing ∷ Nothing ∷ Nothing ∷ Nothing ∷ Nothing ∷  -- 167
-    Shift (Right Signed) B8 ∷ Shift (Right Signed) B16 ∷ Shift (Right Signed) B32 ∷ Shift (Right Signed) B64 ∷  -- 173
+    Shift (way.Right Signed) B8 ∷ Shift (way.Right Signed) B16 ∷ Shift (way.Right Signed) B32 ∷ Shift (way.Right Signed) B64 ∷  -- 173
     Nothing ∷ Nothing ∷ Nothing ∷ Nothing ∷ Nothing ∷ Nothing ∷ Nothing ∷ Nothing ∷ Nothing ∷ Nothing ∷ Nothing ∷ Nothing ∷  -- 177
-    Shift Left B8 ∷ Shift Left B16 ∷ Shift Left B32 ∷ Shift Left B64 ∷  -- 189
-    Nothing ∷ Nothing ∷ Nothing ∷ Nothing ∷ Nothing ∷ Nothing ∷ Nothing ∷ Nothing ∷ Nothing ∷ Nothing ∷ Nothing ∷ Nothing ∷  -- 193
-    Nothing ∷ Nothing ∷ Nothing ∷ Nothing ∷ Nothing ∷  -- 205
-    Shift (Right Unsigned) B8 ∷ Shift (Right Unsigned) B16 ∷ Shift (Right Unsigned) B32 ∷ Shift (Right Unsigned) B64 ∷  -- 210
+    Shift way.Left B8 ∷ Shift way.Left B16 ∷ Shift way.Left B32 ∷ Shift way.Left B64 ∷  -- 189
+    Shift way.Narrow B8 ∷ Shift way.Narrow B16 ∷ Shift way.Narrow B32 ∷  -- 193
+    Nothing ∷ Nothing ∷ Nothing ∷ Nothing ∷ Nothing ∷ Nothing ∷ Nothing ∷ Nothing ∷ Nothing ∷  -- 196
+    Shift (way.Long Signed) B8 ∷ Shift (way.Long Signed) B16 ∷ Shift (way.Long Signed) B32 ∷  -- 205
+    Nothing ∷ Nothing ∷  -- 208
+    Shift (way.Right Unsigned) B8 ∷ Shift (way.Right Unsigned) B16 ∷ Shift (way.Right Unsigned) B32 ∷ Shift (way.Right Unsigned) B64 ∷  -- 210
     Nothing ∷ Nothing ∷ Nothing ∷ Nothing ∷ Nothing ∷ Nothing ∷ Nothing ∷ Nothing ∷ Nothing ∷ Nothing ∷ Nothing ∷ Nothing ∷  -- 214
     Nothing ∷ Nothing ∷ Nothing ∷ Nothing ∷ Nothing ∷ Nothing ∷ Nothing ∷ Nothing ∷ Nothing ∷ Nothing ∷ Nothing ∷ Nothing ∷  -- 226
     Nothing ∷ Nothing ∷ Nothing ∷ Nothing ∷ Nothing ∷ Nothing ∷ Nothing ∷ Nothing ∷ Nothing ∷ Nothing ∷ Nothing ∷ Nothing ∷  -- 238
-    Nothing ∷ Nothing ∷ Nothing ∷ Nothing ∷ Nothing ∷ Nothing ∷ Nothing ∷ Nothing ∷ Nothing ∷ Nothing ∷ Nothing ∷  -- 250
+    Shift (way.Long Unsigned) B8 ∷ Shift (way.Long Unsigned) B16 ∷ Shift (way.Long Unsigned) B32 ∷  -- 250
+    Nothing ∷ Nothing ∷  -- 253
+    Extend Signed B8 ∷ Extend Signed B16 ∷ Extend Signed B32 ∷  -- 255
+    Extend Unsigned B8 ∷ Extend Unsigned B16 ∷ Extend Unsigned B32 ∷  -- 258
     Number constant.Mov B32 ∷  -- 261
     Number constant.Orr B32 ∷  -- 262
     Number constant.Mov B16 ∷  -- 263
@@ -75,13 +84,28 @@ numbered =
     Number constant.Mvn B16 ∷  -- 269
     Number constant.Bic B16 ∷  -- 270
     Number constant.Mov B64 ∷  -- 271
-    Nothing ∷ Nothing ∷ Nothing ∷ Nothing ∷ Nothing ∷ Nothing ∷ Nothing ∷ Nothing ∷ Nothing ∷ Nothing ∷ Nothing ∷ Nothing ∷  -- 272
-    Nothing ∷ Nothing ∷ Nothing ∷ Nothing ∷ Nothing ∷ Nothing ∷ Nothing ∷ Nothing ∷ Nothing ∷ Nothing ∷ Nothing ∷ Nothing ∷  -- 284
-    Nothing ∷ Nothing ∷ Nothing ∷ Nothing ∷ Nothing ∷ Nothing ∷ Nothing ∷ Nothing ∷ Nothing ∷ Nothing ∷ Nothing ∷ Nothing ∷  -- 296
-    Nothing ∷ Nothing ∷ Nothing ∷ Nothing ∷ Nothing ∷ Nothing ∷ Nothing ∷ Nothing ∷ Nothing ∷ Nothing ∷ Nothing ∷ Nothing ∷  -- 308
-    Nothing ∷ Nothing ∷ Nothing ∷ Nothing ∷ Nothing ∷ Nothing ∷ Nothing ∷ Nothing ∷ Nothing ∷ Nothing ∷ Nothing ∷ Nothing ∷  -- 320
-    Nothing ∷ Nothing ∷ Nothing ∷ Nothing ∷ Nothing ∷ Nothing ∷ Nothing ∷ Nothing ∷ Nothing ∷ Nothing ∷ Nothing ∷ Nothing ∷  -- 332
-    Nothing ∷  -- 344
+    Double (Long long.Add Signed) B8 ∷ Double (Long long.Add Signed) B16 ∷ Double (Long long.Add Signed) B32 ∷  -- 272
+    Double (Wide wide.Add Signed) B8 ∷ Double (Wide wide.Add Signed) B16 ∷ Double (Wide wide.Add Signed) B32 ∷  -- 275
+    Double (Long long.Sub Signed) B8 ∷ Double (Long long.Sub Signed) B16 ∷ Double (Long long.Sub Signed) B32 ∷  -- 278
+    Double (Wide wide.Sub Signed) B8 ∷ Double (Wide wide.Sub Signed) B16 ∷ Double (Wide wide.Sub Signed) B32 ∷  -- 281
+    Double (Narrow narrow.Add) B8 ∷ Double (Narrow narrow.Add) B16 ∷ Double (Narrow narrow.Add) B32 ∷  -- 284
+    Nothing ∷ Nothing ∷ Nothing ∷  -- 287
+    Double (Narrow narrow.Sub) B8 ∷ Double (Narrow narrow.Sub) B16 ∷ Double (Narrow narrow.Sub) B32 ∷  -- 290
+    Nothing ∷ Nothing ∷ Nothing ∷  -- 293
+    Double (Long long.Mla Signed) B8 ∷ Double (Long long.Mla Signed) B16 ∷ Double (Long long.Mla Signed) B32 ∷  -- 296
+    Nothing ∷ Nothing ∷  -- 299
+    Double (Long long.Mls Signed) B8 ∷ Double (Long long.Mls Signed) B16 ∷ Double (Long long.Mls Signed) B32 ∷  -- 301
+    Nothing ∷ Nothing ∷  -- 304
+    Double (Long long.Mul Signed) B8 ∷ Double (Long long.Mul Signed) B16 ∷ Double (Long long.Mul Signed) B32 ∷  -- 306
+    Nothing ∷ Nothing ∷ Nothing ∷  -- 309
+    Double (Long long.Add Unsigned) B8 ∷ Double (Long long.Add Unsigned) B16 ∷ Double (Long long.Add Unsigned) B32 ∷  -- 312
+    Double (Wide wide.Add Unsigned) B8 ∷ Double (Wide wide.Add Unsigned) B16 ∷ Double (Wide wide.Add Unsigned) B32 ∷  -- 315
+    Double (Long long.Sub Unsigned) B8 ∷ Double (Long long.Sub Unsigned) B16 ∷ Double (Long long.Sub Unsigned) B32 ∷  -- 318
+    Double (Wide wide.Sub Unsigned) B8 ∷ Double (Wide wide.Sub Unsigned) B16 ∷ Double (Wide wide.Sub Unsigned) B32 ∷  -- 321
+    Nothing ∷ Nothing ∷ Nothing ∷ Nothing ∷ Nothing ∷ Nothing ∷ Nothing ∷ Nothing ∷ Nothing ∷ Nothing ∷ Nothing ∷ Nothing ∷  -- 324
+    Double (Long long.Mla Unsigned) B8 ∷ Double (Long long.Mla Unsigned) B16 ∷ Double (Long long.Mla Unsigned) B32 ∷  -- 336
+    Double (Long long.Mls Unsigned) B8 ∷ Double (Long long.Mls Unsigned) B16 ∷ Double (Long long.Mls Unsigned) B32 ∷  -- 339
+    Double (Long long.Mul Unsigned) B8 ∷ Double (Long long.Mul Unsigned) B16 ∷ Double (Long long.Mul Unsigned) B32 ∷  -- 342
     Copy ∷  -- 345
     []
 
@@ -125,14 +149,6 @@ one k e {m} h = e ∙ ap formAt (sym h) ∙ sym (form-at m)
 pub above : {n m : ℕ} → n ≤ m → (m ≡ n → ⊥) → suc n ≤ m
 above h k = omega arith
 
--- the names from 272 on have none, but the last
-rest : (m : ℕ) → 272 ≤ m → m < 345 → Nothing ≡ formOf (nameOf m)
-unfolding values numbered formAt
-rest m h k = stretch (λ (m : ℕ). Nothing) 272 73 refl h k
-
-pub no-more : (m : ℕ) → 272 ≤ m → (m ≡ 345 → ⊥) → Nothing ≡ formOf (nameOf m)
-no-more m h k = go (ltb m 345) refl
-  where
-    go : (b : Bool) → ltb m 345 ≡ b → Nothing ≡ formOf (nameOf m)
-    go true e = rest m h (ltb-true m 345 e)
-    go false e = let l = ltb-false m 345 e in sym (form-at m ∙ past m (omega arith))
+-- past the last name there is none
+pub no-more : (m : ℕ) → 345 ≤ m → (m ≡ 345 → ⊥) → Nothing ≡ formOf (nameOf m)
+no-more m h k = sym (form-at m ∙ past m (omega arith))

@@ -11,7 +11,7 @@ use Rattle.laws.proofs.Never.{wrong}
 use Rattle.names.specs.Names.{names, nameOf}
 use Rattle.names.proofs.Spellings.{no-name}
 use Rattle.forms.specs.declared.Form.{Form}
-use Rattle.forms.specs.declared.Form.the-variants.{Lanes, Bits, Copy, Shift, Number, Float, Nothing}
+use Rattle.forms.specs.declared.Form.the-variants.{Lanes, Bits, Copy, Shift, Double, Extend, Number, Float, Nothing}
 use Rattle.forms.specs.Forms.{groups, namedForms, formOf}
 use Rattle.forms.specs.Promises as promises
 use Rattle.forms.specs.Promises.{hasForm, ListedForm, ListedCounted}
@@ -45,6 +45,8 @@ no-form m e = go (formOf (nameOf m)) (listedForm m ∙ e)
     go (Bits op) h = wrong (sym h)
     go Copy h = wrong (sym h)
     go (Shift way w) h = wrong (sym h)
+    go (Double op w) h = wrong (sym h)
+    go (Extend s w) h = wrong (sym h)
     go (Number op w) h = wrong (sym h)
     go Float h = wrong (sym h)
     go Nothing h = refl

@@ -1,4 +1,4 @@
--- The names that have a meaning: document 01, 'Register machine'. Every other name has none.
+-- The names that have a meaning: document 01, 'Register machine', and document 02, F-5. Every other name has none.
 -- Assumes nothing.
 use mathlib.Core.List.{List, [], _∷_, _++_}
 use Prim.Native.String.{String}
@@ -8,11 +8,15 @@ use Rattle.lanes.specs.declared.LaneOp.the-variants.{Add, Sub, Mul, Mla, Mls, M
 use Rattle.insn.specs.declared.Sign.the-variants.{Unsigned, Signed}
 use Rattle.insn.specs.declared.Width.{Width}
 use Rattle.insn.specs.declared.Width.the-variants.{B8, B16, B32, B64}
+use Rattle.double_lanes.specs.declared.LongOp.the-variants as long
+use Rattle.double_lanes.specs.declared.WideOp.the-variants as wide
+use Rattle.double_lanes.specs.declared.NarrowOp.the-variants as narrow
+use Rattle.double_lanes.specs.declared.DoubleOp.the-variants.{Long, Wide, Narrow}
 use Rattle.operations.specs.declared.BitOp.the-variants.{And, Orr, Eor, Bic, Orn, Bsl, Bit, Bif}
 use Rattle.operations.specs.declared.ConstantOp.the-variants as constant
-use Rattle.forms.specs.declared.Direction.the-variants.{Left, Right}
+use Rattle.forms.specs.declared.Direction.the-variants as way
 use Rattle.forms.specs.declared.Form.{Form}
-use Rattle.forms.specs.declared.Form.the-variants.{Lanes, Bits, Copy, Shift, Number, Float, Nothing}
+use Rattle.forms.specs.declared.Form.the-variants.{Lanes, Bits, Copy, Shift, Double, Extend, Number, Float, Nothing}
 
 -- a name and its form
 pub record NamedForm : Type 0 where
@@ -22,7 +26,7 @@ pub record NamedForm : Type 0 where
 abbrev only : String → Form → List NamedForm
 only s f = record { name = s; form = f } ∷ []
 
--- one form at each width, 8 to 32 bits, or 8 to 64
+-- one form at each width, 8 to 32 bits, or 8 to 64; a narrow name spells 2w, the width of its sources
 abbrev to32 : (Width → Form) → String → String → String → List NamedForm
 to32 f a b c = only a (f B8) ++ (only b (f B16) ++ only c (f B32))
 
@@ -55,9 +59,30 @@ groups =
     to32 (Lanes (Cge Unsigned)) "vcge.u8" "vcge.u16" "vcge.u32" ∷
     to32 (Lanes Ceq) "vceq.i8" "vceq.i16" "vceq.i32" ∷
     to32 (Lanes Tst) "vtst.8" "vtst.16" "vtst.32" ∷
-    to64 (Shift Left) "vshl.i8" "vshl.i16" "vshl.i32" "vshl.i64" ∷
-    to64 (Shift (Right Unsigned)) "vshr.u8" "vshr.u16" "vshr.u32" "vshr.u64" ∷
-    to64 (Shift (Right Signed)) "vshr.s8" "vshr.s16" "vshr.s32" "vshr.s64" ∷
+    to64 (Shift way.Left) "vshl.i8" "vshl.i16" "vshl.i32" "vshl.i64" ∷
+    to64 (Shift (way.Right Unsigned)) "vshr.u8" "vshr.u16" "vshr.u32" "vshr.u64" ∷
+    to64 (Shift (way.Right Signed)) "vshr.s8" "vshr.s16" "vshr.s32" "vshr.s64" ∷
+    to32 (Double (Long long.Add Signed)) "vaddl.s8" "vaddl.s16" "vaddl.s32" ∷
+    to32 (Double (Long long.Add Unsigned)) "vaddl.u8" "vaddl.u16" "vaddl.u32" ∷
+    to32 (Double (Long long.Sub Signed)) "vsubl.s8" "vsubl.s16" "vsubl.s32" ∷
+    to32 (Double (Long long.Sub Unsigned)) "vsubl.u8" "vsubl.u16" "vsubl.u32" ∷
+    to32 (Double (Long long.Mul Signed)) "vmull.s8" "vmull.s16" "vmull.s32" ∷
+    to32 (Double (Long long.Mul Unsigned)) "vmull.u8" "vmull.u16" "vmull.u32" ∷
+    to32 (Double (Long long.Mla Signed)) "vmlal.s8" "vmlal.s16" "vmlal.s32" ∷
+    to32 (Double (Long long.Mla Unsigned)) "vmlal.u8" "vmlal.u16" "vmlal.u32" ∷
+    to32 (Double (Long long.Mls Signed)) "vmlsl.s8" "vmlsl.s16" "vmlsl.s32" ∷
+    to32 (Double (Long long.Mls Unsigned)) "vmlsl.u8" "vmlsl.u16" "vmlsl.u32" ∷
+    to32 (Double (Wide wide.Add Signed)) "vaddw.s8" "vaddw.s16" "vaddw.s32" ∷
+    to32 (Double (Wide wide.Add Unsigned)) "vaddw.u8" "vaddw.u16" "vaddw.u32" ∷
+    to32 (Double (Wide wide.Sub Signed)) "vsubw.s8" "vsubw.s16" "vsubw.s32" ∷
+    to32 (Double (Wide wide.Sub Unsigned)) "vsubw.u8" "vsubw.u16" "vsubw.u32" ∷
+    to32 (Double (Narrow narrow.Add)) "vaddhn.i16" "vaddhn.i32" "vaddhn.i64" ∷
+    to32 (Double (Narrow narrow.Sub)) "vsubhn.i16" "vsubhn.i32" "vsubhn.i64" ∷
+    to32 (Extend Signed) "vmovl.s8" "vmovl.s16" "vmovl.s32" ∷
+    to32 (Extend Unsigned) "vmovl.u8" "vmovl.u16" "vmovl.u32" ∷
+    to32 (Shift (way.Long Signed)) "vshll.s8" "vshll.s16" "vshll.s32" ∷
+    to32 (Shift (way.Long Unsigned)) "vshll.u8" "vshll.u16" "vshll.u32" ∷
+    to32 (Shift way.Narrow) "vshrn.i16" "vshrn.i32" "vshrn.i64" ∷
     to64 (Number constant.Mov) "vmov.i8" "vmov.i16" "vmov.i32" "vmov.i64" ∷
     only "vmvn.i16" (Number constant.Mvn B16) ∷
     only "vmvn.i32" (Number constant.Mvn B32) ∷

@@ -8,10 +8,10 @@ use lib.ListN.{length}
 use Rattle.laws.specs.Choice.{choose}
 use Rattle.names.specs.Names.{member, nameOf}
 use Rattle.forms.specs.declared.Form.{Form}
-use Rattle.forms.specs.declared.Form.the-variants.{Lanes, Bits, Copy, Shift, Number, Float, Nothing}
+use Rattle.forms.specs.declared.Form.the-variants.{Lanes, Bits, Copy, Shift, Double, Extend, Number, Float, Nothing}
 use Rattle.forms.specs.Forms.{NamedForm, namedForms, formOf}
 
--- the names with a meaning are 79 of the 346
+-- the names with a meaning are 142 of the 346
 abbrev pub listed : ℕ → Bool
 listed m = member (nameOf m) (map (λ (x : NamedForm). x .name) namedForms)
 
@@ -20,7 +20,7 @@ countBelow p zero = 0
 countBelow p (suc n) = choose (p n) 1 0 + countBelow p n
 
 abbrev pub ListedCounted : Type 0
-ListedCounted = (length namedForms ≡ 79) × (countBelow listed 346 ≡ 79)
+ListedCounted = (length namedForms ≡ 142) × (countBelow listed 346 ≡ 142)
 
 -- and they are those that have a form
 abbrev pub hasForm : Form → Bool
@@ -28,6 +28,8 @@ hasForm (Lanes op w) = true
 hasForm (Bits op) = true
 hasForm Copy = true
 hasForm (Shift way w) = true
+hasForm (Double op w) = true
+hasForm (Extend s w) = true
 hasForm (Number op w) = true
 hasForm Float = true
 hasForm Nothing = false

@@ -1,10 +1,14 @@
 // What a mnemonic's operands are, and what it does with them.
 ghost use mathlib.Core.Path.{_≡_};
 ghost use Prim.Native.Nat.{_<_, _≤_};
-ghost use Rattle.forms.specs.declared.Form.the-variants.{Lanes};
+ghost use Rattle.forms.specs.declared.Form.the-variants.{Lanes, Double};
 ghost use Rattle.forms.specs.Forms.{formOf};
 ghost use Rattle.insn.specs.Widths.{widthAt};
 ghost use Rattle.names.specs.Names.{nameOf};
+use double_lanes::DoubleOp;
+use double_lanes::LongOp;
+use double_lanes::NarrowOp;
+use double_lanes::WideOp;
 use insn::Sign;
 use insn::Width;
 use insn::widths::width_at;
@@ -13,10 +17,12 @@ use names::VMOV;
 use operations::BitOp;
 use operations::ConstantOp;
 
-// A shift at each lane, by its direction.
+// A shift at each lane: left, right, left with twice the bits, or right with half of them.
 pub enum Direction {
     Left,
     Right(Sign),
+    Long(Sign),
+    Narrow,
 }
 
 // The operands that a mnemonic takes, and what it does with them.
@@ -29,6 +35,10 @@ pub enum Form {
     Copy,
     // Target, source and amount.
     Shift(Direction, Width),
+    // Target and two sources of unlike length, lane by lane.
+    Double(DoubleOp, Width),
+    // Target and a source of half its length, whose lanes are extended.
+    Extend(Sign, Width),
     // Target and a number for elements of the width.
     Number(ConstantOp, Width),
     // Target and a float.
@@ -42,6 +52,13 @@ fn lanes_at(op: LaneOp, k: u16) -> Form
     ensures { λ r. ⌜ r ≡ Lanes op (widthAt k) ⌝ }
 {
     Form::Lanes(op, width_at(k))
+}
+
+// The form of an operation between lanes of w and 2w bits, at the width k.
+fn double_at(op: DoubleOp, k: u16) -> Form
+    ensures { λ r. ⌜ r ≡ Double op (widthAt k) ⌝ }
+{
+    Form::Double(op, width_at(k))
 }
 
 // The names of three registers in the first half of their table.
@@ -94,7 +111,7 @@ fn upper_form(m: u16) -> Form
     }
 }
 
-// The names of shifts by a number.
+// The names of shifts by a number, and of lanes that are extended.
 fn shift_form(m: u16) -> Form
     requires { ⌜ (173 ≤ m) × (m < 261) ⌝ }
     ensures { λ r. ⌜ r ≡ formOf (nameOf m) ⌝ }
@@ -103,9 +120,16 @@ fn shift_form(m: u16) -> Form
         0..=176 => Form::Shift(Direction::Right(Sign::Signed), width_at(m - 173)),
         177..=188 => Form::Nothing,
         189..=192 => Form::Shift(Direction::Left, width_at(m - 189)),
-        193..=209 => Form::Nothing,
+        193..=195 => Form::Shift(Direction::Narrow, width_at(m - 193)),
+        196..=204 => Form::Nothing,
+        205..=207 => Form::Shift(Direction::Long(Sign::Signed), width_at(m - 205)),
+        208..=209 => Form::Nothing,
         210..=213 => Form::Shift(Direction::Right(Sign::Unsigned), width_at(m - 210)),
-        _ => Form::Nothing,
+        214..=249 => Form::Nothing,
+        250..=252 => Form::Shift(Direction::Long(Sign::Unsigned), width_at(m - 250)),
+        253..=254 => Form::Nothing,
+        255..=257 => Form::Extend(Sign::Signed, width_at(m - 255)),
+        _ => Form::Extend(Sign::Unsigned, width_at(m - 258)),
     }
 }
 
@@ -129,6 +153,46 @@ fn constant_form(m: u16) -> Form
     }
 }
 
+// The names of three registers of unlike length in the first half of their table.
+fn lower_double(m: u16) -> Form
+    requires { ⌜ (272 ≤ m) × (m < 312) ⌝ }
+    ensures { λ r. ⌜ r ≡ formOf (nameOf m) ⌝ }
+{
+    match m {
+        0..=274 => double_at(DoubleOp::Long(LongOp::Add, Sign::Signed), m - 272),
+        275..=277 => double_at(DoubleOp::Wide(WideOp::Add, Sign::Signed), m - 275),
+        278..=280 => double_at(DoubleOp::Long(LongOp::Sub, Sign::Signed), m - 278),
+        281..=283 => double_at(DoubleOp::Wide(WideOp::Sub, Sign::Signed), m - 281),
+        284..=286 => double_at(DoubleOp::Narrow(NarrowOp::Add), m - 284),
+        287..=289 => Form::Nothing,
+        290..=292 => double_at(DoubleOp::Narrow(NarrowOp::Sub), m - 290),
+        293..=295 => Form::Nothing,
+        296..=298 => double_at(DoubleOp::Long(LongOp::Mla, Sign::Signed), m - 296),
+        299..=300 => Form::Nothing,
+        301..=303 => double_at(DoubleOp::Long(LongOp::Mls, Sign::Signed), m - 301),
+        304..=305 => Form::Nothing,
+        306..=308 => double_at(DoubleOp::Long(LongOp::Mul, Sign::Signed), m - 306),
+        _ => Form::Nothing,
+    }
+}
+
+// The names of three registers of unlike length in the second half of their table.
+fn upper_double(m: u16) -> Form
+    requires { ⌜ (312 ≤ m) × (m < 345) ⌝ }
+    ensures { λ r. ⌜ r ≡ formOf (nameOf m) ⌝ }
+{
+    match m {
+        0..=314 => double_at(DoubleOp::Long(LongOp::Add, Sign::Unsigned), m - 312),
+        315..=317 => double_at(DoubleOp::Wide(WideOp::Add, Sign::Unsigned), m - 315),
+        318..=320 => double_at(DoubleOp::Long(LongOp::Sub, Sign::Unsigned), m - 318),
+        321..=323 => double_at(DoubleOp::Wide(WideOp::Sub, Sign::Unsigned), m - 321),
+        324..=335 => Form::Nothing,
+        336..=338 => double_at(DoubleOp::Long(LongOp::Mla, Sign::Unsigned), m - 336),
+        339..=341 => double_at(DoubleOp::Long(LongOp::Mls, Sign::Unsigned), m - 339),
+        _ => double_at(DoubleOp::Long(LongOp::Mul, Sign::Unsigned), m - 342),
+    }
+}
+
 // The form of a mnemonic; a number that is none has no meaning.
 pub fn form_of(m: u16) -> Form
     ensures { λ r. ⌜ r ≡ formOf (nameOf m) ⌝ }
@@ -144,6 +208,12 @@ pub fn form_of(m: u16) -> Form
     }
     if m < 272 {
         return constant_form(m);
+    }
+    if m < 312 {
+        return lower_double(m);
+    }
+    if m < VMOV {
+        return upper_double(m);
     }
     if m == VMOV {
         return Form::Copy;

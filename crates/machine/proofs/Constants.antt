@@ -1,7 +1,7 @@
 -- The constant of a modified-immediate pair is AdvSIMDExpandImm's pattern: antt computes it at every op, cmode and imm8 of a number, and VMOV.F32 by a law.
 -- Assumes nothing.
 use mathlib.Core.Path.{_≡_, refl, sym, ap, _∙_}
-use mathlib.Core.Bool.{Bool, true, false, not, Bool·beq}
+use mathlib.Core.Bool.{Bool, true, false, not}
 use mathlib.Core.List.{List, [], _∷_}
 use Prim.Native.Nat.{ℕ, _+_, _*_, _/_, _%_, _<_}
 use native.Mathlib.Omega.{arith}
@@ -36,13 +36,13 @@ use Rattle.insn.specs.declared.Width.{Width}
 use Rattle.insn.specs.declared.Width.the-variants.{B8, B16, B32, B64}
 use Rattle.operations.specs.declared.ConstantOp.{ConstantOp}
 use Rattle.operations.specs.declared.ConstantOp.the-variants.{Mov, Mvn, Orr, Bic}
-use Rattle.operations.specs.declared.Operation.{Operation}
 use Rattle.operations.specs.declared.Operation.the-variants.{Constant}
 use Rattle.forms.specs.declared.Form.{Form}
 use Rattle.forms.specs.declared.Form.the-variants as form
 use Rattle.machine.specs.Constants.{Expands, ConstantExpands}
 use Rattle.forms.specs.Forms.{groups, namedForms, formOf}
-use Rattle.meanings.specs.Meaning.{act, registers, acting, on, wholePattern, floatPattern, repeated, meaningIn, meaningOf}
+use Rattle.meanings.specs.Meaning.{wholePattern, floatPattern, repeated, meaningIn, meaningOf}
+use Rattle.meanings.proofs.Actions.{on-alike}
 use Rattle.laws.proofs.Tests.{passed}
 use Rattle.readings.proofs.Parts.{two-operands}
 
@@ -78,6 +78,8 @@ constant (form.Lanes op w) = false
 constant (form.Bits op) = false
 constant form.Copy = false
 constant (form.Shift way w) = false
+constant (form.Double op w) = false
+constant (form.Extend s w) = false
 constant form.Nothing = false
 
 abbrev isFloat : Form → Bool
@@ -87,6 +89,8 @@ isFloat (form.Lanes op w) = false
 isFloat (form.Bits op) = false
 isFloat form.Copy = false
 isFloat (form.Shift way w) = false
+isFloat (form.Double op w) = false
+isFloat (form.Extend s w) = false
 isFloat form.Nothing = false
 
 filled : (o c : ℕ) → o < 2 → c < 16 → constant (formAt o c) ≡ not (eqt (cellAt modimm o c) "")
@@ -105,6 +109,8 @@ numbered (form.Lanes op w) x = refused 3
 numbered (form.Bits op) x = refused 3
 numbered form.Copy x = refused 3
 numbered (form.Shift way w) x = refused 3
+numbered (form.Double op w) x = refused 3
+numbered (form.Extend s w) x = refused 3
 numbered form.Nothing x = refused 3
 
 abbrev isNumber : Form → Bool
@@ -114,6 +120,8 @@ isNumber (form.Lanes op w) = false
 isNumber (form.Bits op) = false
 isNumber form.Copy = false
 isNumber (form.Shift way w) = false
+isNumber (form.Double op w) = false
+isNumber (form.Extend s w) = false
 isNumber form.Nothing = false
 
 -- at each of the 8192
@@ -159,15 +167,6 @@ float-pattern : (b : ℕ) → b < 256 → floatPattern (modimmOperand 0 15 b) �
 unfolding constantAt floatPattern operandIn
 float-pattern b h = rw (back-found b h)
 
--- a register for target and sources
-pub alike : (q : Bool) → Bool·beq q q ≡ true
-alike true = refl
-alike false = refl
-
-acts : (op : Operation) (a : Operand) (quad : Bool) (d : ℕ) → vecBits a ≡ accepted (bits quad d) → on op a a a ≡ accepted (act op (registers quad d d d))
-unfolding acting
-acts op a quad d e = rw (e, alike quad)
-
 -- the record of a cell
 module _ (o c b : ℕ) (quad : Bool) (d address : ℕ) (ho : o < 2) (hc : c < 16) (hb : b < 256) where
   cell-record : (a : Operand) → vecBits a ≡ accepted (bits quad d) → eqt (cellAt modimm o c) "" ≡ false
@@ -185,7 +184,7 @@ module _ (o c b : ℕ) (quad : Bool) (d address : ℕ) (ho : o < 2) (hc : c < 16
           record {
             pattern = repeated w p;
             expanded = sym q;
-            meant = rw (number-form o c ho hc, name-form o c ho hc, f, x) (acts (Constant op (repeated w p)) a quad d e);
+            meant = rw (number-form o c ho hc, name-form o c ho hc, f, x) (on-alike (Constant op (repeated w p)) a a a quad d d d e e e);
           }
       whole op w f (refused n) x q = absurd (not-refused (constantAt o c) b n (defined o c ho hc ∙ ap not full) (sym q))
 
@@ -200,12 +199,14 @@ module _ (o c b : ℕ) (quad : Bool) (d address : ℕ) (ho : o < 2) (hc : c < 16
             expanded = rw (zo, zc) (float-expands b);
             meant =
                 rw (number-form o c ho hc, name-form o c ho hc, f, zo, zc, float-pattern b hb)
-                (acts (Constant Mov (copies 2 32 (floatBits b))) a quad d e);
+                (on-alike (Constant Mov (copies 2 32 (floatBits b))) a a a quad d d d e e e);
           }
       go (form.Lanes op w) f = wrong (sym (ap constant f) ∙ full)
       go (form.Bits op) f = wrong (sym (ap constant f) ∙ full)
       go form.Copy f = wrong (sym (ap constant f) ∙ full)
       go (form.Shift way w) f = wrong (sym (ap constant f) ∙ full)
+      go (form.Double op w) f = wrong (sym (ap constant f) ∙ full)
+      go (form.Extend s w) f = wrong (sym (ap constant f) ∙ full)
       go form.Nothing f = wrong (sym (ap constant f) ∙ full)
 
   -- what is read of a cell

@@ -1,7 +1,8 @@
 -- The promises of specs/Promises.antt.
 -- Assumes nothing.
 use mathlib.Core.Path.{_≡_, refl, ap, subst}
-use mathlib.Core.Bool.{Bool, true, false, Bool·beq}
+use mathlib.Core.Bool.{Bool, true, false}
+use Prim.Native.Nat.{ℕ}
 use lib.Bits.{or-self}
 use Rattle.laws.specs.Answer.{Answer, accepted, refused}
 use Rattle.laws.specs.Choice.{choose}
@@ -10,53 +11,65 @@ use Rattle.insn.specs.declared.Insn.{Insn}
 use Rattle.insn.proofs.Promises.{numberedApart}
 use Rattle.fields.specs.Registers.{Bits, bits, vecBits}
 use Rattle.operations.specs.declared.BitOp.the-variants.{Orr, Mov}
-use Rattle.operations.specs.declared.Operation.{Operation}
 use Rattle.operations.specs.declared.Operation.the-variants.{Bits as Bitwise}
 use Rattle.forms.specs.declared.Form.the-variants.{Bits as Orred, Copy}
-use Rattle.meanings.specs.declared.Registers.{Registers}
+use Rattle.tables.specs.declared.lengths.Lengths.{Lengths}
+use Rattle.tables.specs.Lengths.{lengths}
+use Rattle.meanings.specs.declared.Numbers.{Numbers}
 use Rattle.machine.specs.declared.Outcome.the-variants.{Done, Refused as Stopped}
 use Rattle.machine.specs.File.{File, Good, readD}
 use Rattle.forms.specs.Forms.{groups, namedForms, formOf}
-use Rattle.meanings.specs.Meaning.{Act, act, registers, acting, meaningIn, meaningOf}
+use Rattle.meanings.specs.Meaning.{Act, act, registers, numbers, lengthsIn, numbersIn, Trio, trio, gathered, sameLengths, acting, meaningIn, meaningOf}
 use Rattle.operations.specs.Operations.{resultOf}
 use Rattle.machine.specs.Step.{effect, stepBy, stepInsn}
-use Rattle.machine.specs.Promises.{FileKept, OnlyTarget, CopyAlias, QuadHalves, OutcomesApart}
+use Rattle.machine.specs.Promises.{FileKept, OnlyTarget, CopyAlias, QuadHalves, UnlikeHalves, OutcomesApart}
 use Rattle.meanings.proofs.Actions.{Fits, meant}
-use Rattle.machine.proofs.Steps.{effect-good, effect-other, quad-halves}
+use Rattle.machine.proofs.Steps.{effect-good, effect-other, quad-halves, unlike-halves}
 
--- a step that was taken is an operation's effect
-taken : (i : Insn) (file after : File) (P : File → Type 0) → ((op : Operation) (r : Registers) → Fits (i .first) op r → P (effect op r file))
-    → stepInsn i file ≡ accepted after → P after
+-- a step that was taken is an act's effect
+taken : (i : Insn) (file after : File) (P : File → Type 0) → ((x : Act) → Fits (i .first) x → P (effect x file)) → stepInsn i file ≡ accepted after → P after
 unfolding stepBy
 taken i file after P each e = go (meaningOf i) refl e
   where
-    go : (x : Answer Act) → meaningOf i ≡ x → stepBy x file ≡ accepted after → P after
-    go (accepted (act op r)) m f = let k : effect op r file ≡ after = cc in subst P k (each op r (meant i op r m))
+    go : (a : Answer Act) → meaningOf i ≡ a → stepBy a file ≡ accepted after → P after
+    go (accepted x) m f = let k : effect x file ≡ after = cc in subst P k (each x (meant i x m))
     go (refused n) m f = never (cc)
 
 pub fileKept : FileKept
-fileKept i file after g e = taken i file after Good (λ op r k. effect-good op file r (k .sized) g) e
+fileKept i file after g e = taken i file after Good (λ x k. effect-good x file (k .sized) g) e
 
 pub onlyTarget : OnlyTarget
 onlyTarget i file after quad d k e v h u =
     taken i file after (λ (f : File). readD f k ≡ readD file k)
-    (λ op r w. let t = w .target in
-    let same : r .d ≡ d = cc in
-    let alike : r .quad ≡ quad = cc in
-    effect-other op file r k (rw same h) (rw (same, alike) u)) e
+    (λ x w. let t = w .target in
+    let same : numbersIn x .d ≡ d = cc in
+    let alike : lengthsIn x .d ≡ quad = cc in
+    effect-other x file k (rw same h) (rw (same, alike) u)) e
 
 -- what vorr does with equal sources, a copy does
-alike : (file : File) (x y : Answer Bits) → stepBy (acting (Bitwise Orr) x y y) file ≡ stepBy (acting (Bitwise Mov) x y y) file
-unfolding acting stepBy effect resultOf
-alike file (accepted (bits p d)) (accepted (bits q n)) = go (Bool·beq p q)
+copied : (file : File) (quad : Bool) (d n m : ℕ) → n ≡ m
+    → effect (act (Bitwise Orr) (registers quad d n m)) file ≡ effect (act (Bitwise Mov) (registers quad d n m)) file
+unfolding effect resultOf
+copied file quad d n m e = subst (λ (m : ℕ). effect (act (Bitwise Orr) (registers quad d n m)) file ≡ effect (act (Bitwise Mov) (registers quad d n m)) file) e (simp or-self)
+
+alike : (file : File) (g : Answer Trio) → ((l : Lengths) (r : Numbers) → g ≡ accepted (trio l r) → r .n ≡ r .m)
+    → stepBy (acting (Bitwise Orr) g) file ≡ stepBy (acting (Bitwise Mov) g) file
+unfolding acting stepBy
+alike file (accepted (trio l r)) equal = go (sameLengths l (lengths (l .d) (l .d) (l .d)))
   where
     go : (b : Bool)
-        → stepBy (choose b (choose b (accepted (act (Bitwise Orr) (registers p d n n))) (refused 10)) (refused 10)) file
-        ≡ stepBy (choose b (choose b (accepted (act (Bitwise Mov) (registers p d n n))) (refused 10)) (refused 10)) file
-    go true = simp or-self
+        → stepBy (choose b (accepted (act (Bitwise Orr) (registers (l .d) (r .d) (r .n) (r .m)))) (refused 10)) file
+        ≡ stepBy (choose b (accepted (act (Bitwise Mov) (registers (l .d) (r .d) (r .n) (r .m)))) (refused 10)) file
+    go true = ap accepted (copied file (l .d) (r .d) (r .n) (r .m) (equal l r refl))
     go false = refl
-alike file (accepted (bits p d)) (refused k) = refl
-alike file (refused k) y = refl
+alike file (refused k) equal = refl
+
+-- sources that are the same operand have the same number
+equal-sources : (x y : Answer Bits) (l : Lengths) (r : Numbers) → gathered x y y ≡ accepted (trio l r) → r .n ≡ r .m
+unfolding gathered
+equal-sources (accepted (bits p d)) (accepted (bits q n)) l r e = let k : numbers d n n ≡ r = cc in rw (← k)
+equal-sources (accepted (bits p d)) (refused k) l r e = never (cc)
+equal-sources (refused k) y l r e = never (cc)
 
 vorr-form : formOf "vorr" ≡ Orred Orr
 unfolding groups namedForms formOf
@@ -68,10 +81,13 @@ vmov-form = refl
 
 pub copyAlias : CopyAlias
 unfolding meaningOf meaningIn
-copyAlias i j file a b c d e f g = rw (a, vorr-form, b, c, d, vmov-form, e, f, g) (alike file (vecBits (i .first)) (vecBits (i .second)))
+copyAlias i j file a b c d e f g = rw (a, vorr-form, b, c, d, vmov-form, e, f, g) (alike file (gathered (vecBits (i .first)) (vecBits (i .second)) (vecBits (i .second))) (equal-sources (vecBits (i .first)) (vecBits (i .second))))
 
 pub quadHalves : QuadHalves
 quadHalves op t a b file s g = quad-halves op t a b file s g
+
+pub unlikeHalves : UnlikeHalves
+unlikeHalves op w r file g = unlike-halves op w r file g
 
 pub outcomesApart : OutcomesApart
 outcomesApart Done Done f g e = refl

@@ -30,6 +30,8 @@ opIn (form.Lanes op w) = Mov
 opIn (form.Bits op) = Mov
 opIn form.Copy = Mov
 opIn (form.Shift way w) = Mov
+opIn (form.Double op w) = Mov
+opIn (form.Extend s w) = Mov
 opIn form.Nothing = Mov
 
 -- what the cell op:cmode of table A7-14 does with its constant, by its name

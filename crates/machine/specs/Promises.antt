@@ -13,8 +13,12 @@ use Rattle.forms.specs.Promises.{listed}
 use Rattle.operations.specs.declared.Operation.{Operation}
 use Rattle.machine.specs.declared.Outcome.{Outcome}
 use Rattle.machine.specs.Answers.{outcomeAnswer}
-use Rattle.machine.specs.File.{File, Good, readD}
-use Rattle.meanings.specs.Meaning.{Act, registers, meaningOf}
+use Rattle.insn.specs.declared.Width.{Width}
+use Rattle.double_lanes.specs.declared.DoubleOp.{DoubleOp}
+use Rattle.double_lanes.specs.Double.{lengthsOf, halfOf}
+use Rattle.machine.specs.File.{File, Good, readD, readHalf, writeHalves}
+use Rattle.meanings.specs.declared.Numbers.{Numbers}
+use Rattle.meanings.specs.Meaning.{Act, act, double, registers, meaningOf}
 use Rattle.operations.specs.Operations.{Sized}
 use Rattle.machine.specs.Step.{effect, stepInsn}
 
@@ -39,8 +43,16 @@ CopyAlias =
 abbrev pub QuadHalves : Type 0
 QuadHalves =
     (op : Operation) (t a b : ℕ) (file : File) → Sized op → Good file
-    → effect op (registers true (2 * t) (2 * a) (2 * b)) file
-    ≡ effect op (registers false (2 * t + 1) (2 * a + 1) (2 * b + 1)) (effect op (registers false (2 * t) (2 * a) (2 * b)) file)
+    → effect (act op (registers true (2 * t) (2 * a) (2 * b))) file
+    ≡ effect (act op (registers false (2 * t + 1) (2 * a + 1) (2 * b + 1))) (effect (act op (registers false (2 * t) (2 * a) (2 * b))) file)
+
+-- on registers of unlike length it is that on their low halves and that on their high ones, all read before either is written
+abbrev pub UnlikeHalves : Type 0
+UnlikeHalves =
+    (op : DoubleOp) (w : Width) (r : Numbers) (file : File) → Good file
+    → let l = lengthsOf op in
+    let half : ℕ → ℕ = λ h. halfOf op w (readHalf (l .d) file (r .d) h) (readHalf (l .n) file (r .n) h) (readHalf (l .m) file (r .m) h) in
+    effect (double op w r) file ≡ writeHalves (l .d) file (r .d) (half 0) (half 1)
 
 -- an answer says which case it is
 abbrev pub OutcomesApart : Type 0

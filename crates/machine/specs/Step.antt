@@ -1,23 +1,28 @@
--- One machine step: the file after an operation, and after a record.
+-- One machine step: the file after an act, and after a record.
 -- Assumes nothing.
 use Prim.Native.Nat.{ℕ}
 use Rattle.laws.specs.Answer.{Answer, accepted, refused}
 use Rattle.insn.specs.declared.Insn.{Insn}
 use Rattle.decode.specs.Reading.{reading}
-use Rattle.operations.specs.declared.Operation.{Operation}
-use Rattle.meanings.specs.declared.Registers.{Registers}
 use Rattle.machine.specs.File.{File, registerBits, readR, writeR}
-use Rattle.meanings.specs.Meaning.{Act, act, meaningOf}
+use Rattle.meanings.specs.Meaning.{Act, act, double, lengthsIn, numbersIn, meaningOf}
 use Rattle.operations.specs.Operations.{resultOf}
+use Rattle.double_lanes.specs.Double.{doubleOf}
 
--- the file after an operation on whole registers: the old target and the sources are read before the target is written
-unfoldable pub effect : Operation → Registers → File → File
-effect op r file =
-    writeR (r .quad) file (r .d)
-    (resultOf (registerBits (r .quad)) op (readR (r .quad) file (r .d)) (readR (r .quad) file (r .n)) (readR (r .quad) file (r .m)))
+-- what an act makes of whole registers: the old target, and the sources
+abbrev pub resultIn : Act → ℕ → ℕ → ℕ → ℕ
+resultIn (act op r) d n m = resultOf (registerBits (r .quad)) op d n m
+resultIn (double op w r) d n m = doubleOf op w d n m
+
+-- the file after an act on whole registers, each with its own length: all are read before the target is written
+unfoldable pub effect : Act → File → File
+effect x file =
+    let l = lengthsIn x in
+    let r = numbersIn x in
+    writeR (l .d) file (r .d) (resultIn x (readR (l .d) file (r .d)) (readR (l .n) file (r .n)) (readR (l .m) file (r .m)))
 
 unfoldable pub stepBy : Answer Act → File → Answer File
-stepBy (accepted (act op r)) file = accepted (effect op r file)
+stepBy (accepted x) file = accepted (effect x file)
 stepBy (refused n) file = refused n
 
 -- the step that a record is

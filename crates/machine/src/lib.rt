@@ -1,12 +1,21 @@
 // The register machine: one instruction on a file of 32 doublewords.
 ghost use mathlib.Core.Path.{_≡_};
+ghost use Prim.Native.Nat.{_<_};
+ghost use Rattle.double_lanes.specs.Double.{lengthsOf, halfOf};
 ghost use Rattle.machine.specs.Answers.{steppedAnswer};
+ghost use Rattle.machine.specs.File.{readHalf};
 ghost use Rattle.machine.specs.Step.{effect, stepInsn, stepPair, fileAfter};
-ghost use Rattle.meanings.specs.Own.{Within};
+ghost use Rattle.meanings.specs.Meaning.{act, double};
+ghost use Rattle.meanings.specs.Own.{InFile, Within};
+ghost use Rattle.tables.specs.Lengths.{lengths};
+use double_lanes::DoubleOp;
+use double_lanes::lengths_of;
 use insn::Edition;
 use insn::Insn;
 use insn::Refusal;
+use insn::Width;
 use meanings::Meaning;
+use meanings::Numbers;
 use meanings::Registers;
 use operations::Operation;
 use readings::Reading;
@@ -23,10 +32,11 @@ pub struct Stepped {
     pub file: [u64; 32],
 }
 
-// The file after an operation, by doublewords: a quadword is two. The sources are read from the file before it.
+// The file after an operation on registers of one length, by doublewords: a quadword is two. The sources are read from
+// the file before it.
 fn perform(file: [u64; 32], op: Operation, r: Registers) -> [u64; 32]
-    requires { ⌜ Within r ⌝ }
-    ensures { λ after. ⌜ after ≡ effect op r file ⌝ }
+    requires { ⌜ Within (lengths (r .quad) (r .quad) (r .quad)) (r .d) (r .n) (r .m) ⌝ }
+    ensures { λ after. ⌜ after ≡ effect (act op r) file ⌝ }
 {
     let d = r.d as usize;
     let n = r.n as usize;
@@ -35,6 +45,49 @@ fn perform(file: [u64; 32], op: Operation, r: Registers) -> [u64; 32]
     after[d] = operations::value(op, file[d], file[n], file[m]);
     if r.quad {
         after[d + 1] = operations::value(op, file[d + 1], file[n + 1], file[m + 1]);
+    }
+    after
+}
+
+// The low half of a register for h = 0, the high one for 1: a doubleword of a quadword, 32 bits of a doubleword.
+fn half_of(file: &[u64; 32], quad: bool, k: usize, h: usize) -> u64
+    requires { ⌜ InFile quad k × (h < 2) ⌝ }
+    ensures { λ r. ⌜ r ≡ readHalf quad (now (file .entry)) k h ⌝ }
+{
+    if quad {
+        file[k + h]
+    } else {
+        (file[k] >> (32 * h)) % 0x1_0000_0000
+    }
+}
+
+// What an operation on registers of unlike length leaves in a half of its target.
+fn half_left(file: &[u64; 32], op: DoubleOp, w: Width, r: Numbers, h: usize) -> u64
+    requires { ⌜ Within (lengthsOf op) (r .d) (r .n) (r .m) × (h < 2) ⌝ }
+    ensures { λ v. ⌜ v ≡ halfOf op w (readHalf (lengthsOf op .d) (now (file .entry)) (r .d) h) (readHalf (lengthsOf op .n) (now (file .entry)) (r .n) h) (readHalf (lengthsOf op .m) (now (file .entry)) (r .m) h) ⌝ }
+{
+    let l = lengths_of(op);
+    let d = half_of(file, l.d, r.d as usize, h);
+    let n = half_of(file, l.n, r.n as usize, h);
+    let m = half_of(file, l.m, r.m as usize, h);
+    double_lanes::half(op, w, d, n, m)
+}
+
+// The file after an operation on registers of unlike length, by halves. The sources are read from the file before it.
+fn perform_double(file: [u64; 32], op: DoubleOp, w: Width, r: Numbers) -> [u64; 32]
+    requires { ⌜ Within (lengthsOf op) (r .d) (r .n) (r .m) ⌝ }
+    ensures { λ after. ⌜ after ≡ effect (double op w r) file ⌝ }
+{
+    let l = lengths_of(op);
+    let d = r.d as usize;
+    let low = half_left(&file, op, w, r, 0);
+    let mut after = file;
+    after[d] = low;
+    let high = half_left(&file, op, w, r, 1);
+    if l.d {
+        after[d + 1] = high;
+    } else {
+        after[d] = low + high * 0x1_0000_0000;
     }
     after
 }
@@ -51,6 +104,13 @@ pub fn step_insn(file: [u64; 32], i: Insn) -> Stepped
             Stepped {
                 outcome: Outcome::Done,
                 file: after,
+            }
+        }
+        Meaning::Doubles(op, w, r) => {
+            let left = perform_double(file, op, w, r);
+            Stepped {
+                outcome: Outcome::Done,
+                file: left,
             }
         }
         Meaning::Refused(f) => Stepped {

@@ -1,6 +1,8 @@
-// Runs worked vectors through the machine, each on doublewords and on both halves of quadwords, and prints how many passed.
-// A line of the input that begins with # is text. Any other is a space and a vector: mnemonic, shape, number, old target,
-// first source, second source, result, and then how the result was worked.
+// Runs worked vectors through the machine and prints how many passed. A line of the input is a mark, a vector, and then
+// how the result was worked; after the mark # it is text. After a space the vector has a mnemonic, a shape, a number, the
+// old target, the first source, the second source and the result, and is run on doublewords and on both halves of
+// quadwords. After : and ! it has a mnemonic, the operands, a number, and the quadwords Q0, Q1, Q2 and then Q0 afterwards;
+// those after ! are refused.
 use insn::Insn;
 use insn::Mark;
 use insn::Operand;
@@ -17,9 +19,14 @@ fn byte(names: &[u8; 4152], m: u16, j: u8) -> u8 {
     if j < 12 && at < 4152 { names[at] } else { b' ' }
 }
 
-fn begins(line: &[u8; 100], names: &[u8; 4152], mnemonic: u16) -> bool {
+// The byte at a place of a text; a space past its end.
+fn letter(text: &[u8], at: usize) -> u8 {
+    if at < text.len() { text[at] } else { b' ' }
+}
+
+fn begins(line: &[u8], names: &[u8; 4152], mnemonic: u16) -> bool {
     for j in 0..12u8 {
-        if line[j as usize] != byte(names, mnemonic, j) {
+        if letter(line, j as usize) != byte(names, mnemonic, j) {
             return false;
         }
     }
@@ -27,7 +34,7 @@ fn begins(line: &[u8; 100], names: &[u8; 4152], mnemonic: u16) -> bool {
 }
 
 // The mnemonic with which the line begins; the number past the last, which is none, where there is none.
-fn mnemonic_of(line: &[u8; 100]) -> u16 {
+fn mnemonic_of(line: &[u8]) -> u16 {
     let names = names::table();
     for m in 0..names::COUNT {
         if begins(line, &names, m) {
@@ -82,6 +89,27 @@ fn record(mnemonic: u16, shape: u8, v: u64, quad: bool) -> Insn {
     }
 }
 
+// What a letter puts in place k: a quadword, a doubleword, the number, the registers past the last, or nothing.
+fn operand(c: u8, k: u8, v: u64) -> Operand {
+    match c {
+        b'q' => register(true, k),
+        b'd' => register(false, k),
+        b'#' => Operand::Imm(insn::signed::signed_of(v)),
+        b'X' => Operand::Q(16),
+        b'x' => Operand::D(32),
+        _ => Operand::Absent,
+    }
+}
+
+// The record with the operands that stand at a place of the text: their count, and a letter for each of the three.
+fn lettered(mnemonic: u16, text: &[u8], at: u8, v: u64) -> Insn {
+    let from = at as usize;
+    let a = operand(letter(text, from + 1), 0, v);
+    let b = operand(letter(text, from + 2), 1, v);
+    let c = operand(letter(text, from + 3), 2, v);
+    insn_of(mnemonic, letter(text, from) % 16, a, b, c)
+}
+
 // A file with the words in both halves of Q0, Q1 and Q2.
 fn start(d: u64, n: u64, m: u64) -> [u64; 32] {
     let mut file = [0x5555_5555_5555_5555u64; 32];
@@ -91,6 +119,18 @@ fn start(d: u64, n: u64, m: u64) -> [u64; 32] {
     file[3] = n;
     file[4] = m;
     file[5] = m;
+    file
+}
+
+// A file with the line's quadwords in Q0, Q1 and Q2; the higher half of each stands first in the line.
+fn start_of(line: &[u8; 153]) -> [u64; 32] {
+    let mut file = start(0, 0, 0);
+    file[0] = field(line, 37, 16);
+    file[1] = field(line, 21, 16);
+    file[2] = field(line, 70, 16);
+    file[3] = field(line, 54, 16);
+    file[4] = field(line, 103, 16);
+    file[5] = field(line, 87, 16);
     file
 }
 
@@ -130,18 +170,37 @@ fn passes(line: &[u8; 100], mnemonic: u16, quad: bool) -> bool {
     steps(file, i, 0, after)
 }
 
-// 1 for a line whose vector passes both ways; else 0, and the line is printed.
-fn run(line: &[u8; 100]) -> u64 {
-    let mnemonic = mnemonic_of(line);
-    if passes(line, mnemonic, false) {
-        if passes(line, mnemonic, true) {
-            return 1;
-        }
+// Whether the line's vector passes on registers of different lengths, and is refused where the mark says so.
+fn passes_unlike(line: &[u8; 153], mark: u8) -> bool {
+    let i = lettered(mnemonic_of(line), line, 13, field(line, 18, 2));
+    let file = start_of(line);
+    let mut after = file;
+    after[0] = field(line, 136, 16);
+    after[1] = field(line, 120, 16);
+    steps(file, i, if mark == b'!' { 10 } else { 0 }, after)
+}
+
+// 1 for a line whose vector passes; else 0, and the line is printed.
+fn tell(line: &[u8], passed: bool) -> u64 {
+    if passed {
+        return 1;
     }
     put(b"failed ");
     put(line);
     put(b"\n");
     0
+}
+
+// Whether a mnemonic has a meaning with the operands of vaddl, vaddw, vaddhn, vmovl, vshll or vshrn.
+fn has_unlike_meaning(mnemonic: u16) -> bool {
+    let file = start(0, 1, 2);
+    for k in 0..6u8 {
+        let i = lettered(mnemonic, b"3qdd3qqd3dqq2qd-3qd#3dq#", 4 * k, 1);
+        if !steps(file, i, 10, file) {
+            return true;
+        }
+    }
+    false
 }
 
 // Whether a mnemonic has a meaning with some shape of operands.
@@ -153,7 +212,7 @@ fn has_meaning(mnemonic: u16) -> bool {
             return true;
         }
     }
-    false
+    has_unlike_meaning(mnemonic)
 }
 
 fn count_meanings() -> u64 {
@@ -179,13 +238,31 @@ fn skip() {
     }
 }
 
-// Reads a vector and runs it: 1 where it passes, else 0.
-fn vector() -> u64 {
+// Reads a vector with registers of one length and runs it both ways: 1 where it passes, else 0.
+fn alike() -> u64 {
     let mut line = [0u8; 100];
     if io::read_full(STDIN_FILENO, &mut line) < 100 {
         return 0;
     }
-    run(&line)
+    let mnemonic = mnemonic_of(&line);
+    let once = passes(&line, mnemonic, false);
+    let twice = passes(&line, mnemonic, true);
+    tell(&line, once && twice)
+}
+
+// Reads a vector with registers of different lengths and runs it.
+fn unlike(mark: u8) -> u64 {
+    let mut line = [0u8; 153];
+    if io::read_full(STDIN_FILENO, &mut line) < 153 {
+        return 0;
+    }
+    let passed = passes_unlike(&line, mark);
+    tell(&line, passed)
+}
+
+// Runs the vector after a mark.
+fn vector(mark: u8) -> u64 {
+    if mark == b' ' { alike() } else { unlike(mark) }
 }
 
 fn main() {
@@ -198,7 +275,7 @@ fn main() {
         }
         if mark[0] != b'#' {
             read = std::num::wrapping_add_u64(read, 1);
-            passed = std::num::wrapping_add_u64(passed, vector());
+            passed = std::num::wrapping_add_u64(passed, vector(mark[0]));
         }
         skip();
     }

@@ -1,6 +1,6 @@
 -- What the meaning of a record can be: refusal 10, or an operation on registers that the file has, the first place's its target.
 -- Assumes nothing.
-use mathlib.Core.Path.{_≡_, refl, subst}
+use mathlib.Core.Path.{_≡_, refl, ap, subst, _∙_}
 use mathlib.Core.Bool.{Bool, true, false, Bool·beq}
 use Prim.Native.Nat.{ℕ, _+_, _*_, _^_, _<_}
 use native.Mathlib.Nat.{mod-lt}
@@ -15,23 +15,34 @@ use Rattle.insn.specs.declared.Operand.the-variants.{D, Q, S, Imm, Float, Other
 use Rattle.names.specs.Names.{nameOf}
 use Rattle.laws.specs.Search.{Found, at, none}
 use Rattle.laws.proofs.Never.{never}
+use Rattle.laws.proofs.Tests.{both-true}
 use Rattle.fields.specs.Registers.{Bits, bits, vecBits}
 use Rattle.floats.specs.Floats.{floatBits}
 use Rattle.floats.specs.Found.{findFloat}
 use Rattle.immediates.specs.Modified.{copies}
 use Rattle.insn.specs.declared.Width.{Width}
 use Rattle.insn.specs.declared.Width.the-variants.{B8, B16, B32, B64}
+use Rattle.tables.specs.declared.lengths.Lengths.{Lengths}
+use Rattle.tables.specs.Lengths.{lengths}
+use Rattle.lanes.specs.declared.LaneOp.the-variants.{Shl, Shr}
+use Rattle.double_lanes.specs.declared.LongOp.the-variants as long
+use Rattle.double_lanes.specs.declared.NarrowOp.the-variants as narrow
+use Rattle.double_lanes.specs.declared.DoubleOp.{DoubleOp}
+use Rattle.double_lanes.specs.declared.DoubleOp.the-variants.{Long, Narrow}
+use Rattle.double_lanes.specs.Double.{lengthsOf}
 use Rattle.operations.specs.declared.BitOp.the-variants.{Mov}
 use Rattle.operations.specs.declared.ConstantOp.the-variants as constant
 use Rattle.operations.specs.declared.Operation.{Operation}
 use Rattle.operations.specs.declared.Operation.the-variants.{Lanes, Bits as Bitwise, Constant}
+use Rattle.forms.specs.declared.Direction.{Direction}
+use Rattle.forms.specs.declared.Direction.the-variants as way
 use Rattle.forms.specs.declared.Form.{Form}
 use Rattle.forms.specs.declared.Form.the-variants as form
-use Rattle.meanings.specs.declared.Registers.{Registers}
+use Rattle.meanings.specs.declared.Numbers.{Numbers}
 use Rattle.forms.specs.Forms.{formOf}
-use Rattle.meanings.specs.Meaning.{Act, act, registers, acting, on, wholePattern, patternAt, floatPattern, repeated, shiftBy, countOf, meaningIn, meaningOf}
+use Rattle.meanings.specs.Meaning.{Act, act, double, registers, numbers, lengthsIn, numbersIn, Trio, trio, gathered, sameLengths, acting, on, doubling, onUnlike, wholePattern, patternAt, floatPattern, repeated, shifting, countOf, meaningIn, meaningOf}
 use Rattle.operations.specs.Operations.{Sized}
-use Rattle.meanings.specs.Own.{Within}
+use Rattle.meanings.specs.Own.{InFile, Within}
 
 pub repeated-lt : (w : Width) (p : ℕ) → repeated w p < 2 ^ 64
 unfolding repeated
@@ -64,7 +75,14 @@ module _ (P : Answer Act → Type 0) (stop : (n : ℕ) → P (refused n)) where
   pick true h = h
   pick false h = stop 10
 
-  module _ (a : Operand) (each : (op : Operation) (b c : Operand) → Sized op → P (on op a b c)) where
+  module _ (a : Operand) (each : (op : Operation) (b c : Operand) → Sized op → P (on op a b c))
+      (every : (op : DoubleOp) (w : Width) (b c : Operand) → P (onUnlike op w a b c)) where
+    shift-by : (way : Direction) (w : Width) (k : ℕ) (b : Operand) → P (shifting way w k a b)
+    shift-by way.Left w k b = each (Lanes (Shl k) w) b b tt
+    shift-by (way.Right s) w k b = each (Lanes (Shr s k) w) b b tt
+    shift-by (way.Long s) w k b = every (Long (long.Shl k) s) w b b
+    shift-by way.Narrow w k b = every (Narrow (narrow.Shr k)) w b b
+
     in-form : (f : Form) (b c : Operand) → P (meaningIn f a b c)
     unfolding meaningIn
     in-form (form.Lanes op w) b c = each (Lanes op w) b c tt
@@ -72,9 +90,11 @@ module _ (P : Answer Act → Type 0) (stop : (n : ℕ) → P (refused n)) where
     in-form form.Copy b c = each (Bitwise Mov) b b tt
     in-form (form.Shift way w) b c = go (wholePattern c)
       where
-        go : (x : Answer ℕ) → P (andThen x (λ k. choose (leb k 64) (on (Lanes (shiftBy way k) w) a b b) (refused 10)))
-        go (accepted k) = pick (leb k 64) (each (Lanes (shiftBy way k) w) b b tt)
+        go : (x : Answer ℕ) → P (andThen x (λ k. choose (leb k 64) (shifting way w k a b) (refused 10)))
+        go (accepted k) = pick (leb k 64) (shift-by way w k b)
         go (refused n) = stop n
+    in-form (form.Double op w) b c = every op w b c
+    in-form (form.Extend s w) b c = every (Long long.Mov s) w b b
     in-form (form.Number op w) b c = go (wholePattern b)
       where
         go : (x : Answer ℕ) → P (andThen x (λ p. on (Constant op (repeated w p)) a a a))
@@ -87,24 +107,26 @@ module _ (P : Answer Act → Type 0) (stop : (n : ℕ) → P (refused n)) where
         go (refused n) h = stop n
     in-form form.Nothing b c = stop 10
 
-  pub every : (i : Insn) → ((op : Operation) (b c : Operand) → Sized op → P (on op (i .first) b c)) → P (meaningOf i)
+  pub any-meaning : (i : Insn) → ((op : Operation) (b c : Operand) → Sized op → P (on op (i .first) b c))
+      → ((op : DoubleOp) (w : Width) (b c : Operand) → P (onUnlike op w (i .first) b c)) → P (meaningOf i)
   unfolding meaningOf
-  every i each =
+  any-meaning i each every =
       let f = formOf (nameOf (i .mnemonic)) in
-      pick (eqb (i .count) (countOf f)) (in-form (i .first) each f (i .second) (i .third))
+      pick (eqb (i .count) (countOf f)) (in-form (i .first) each every f (i .second) (i .third))
 
 -- a register that has a number is in the file
-in-file : (x : Operand) (q : Bool) (d : ℕ) → vecBits x ≡ accepted (bits q d) → (d < 32) × (q ≡ true → d + 1 < 32)
+in-file : (x : Operand) (q : Bool) (d : ℕ) → vecBits x ≡ accepted (bits q d) → InFile q d
 unfolding vecBits
 in-file (D n) q d e = go (ltb n 32) refl e
   where
-    go : (b : Bool) → ltb n 32 ≡ b → choose b (accepted (bits false n)) (refused 8) ≡ accepted (bits q d) → (d < 32) × (q ≡ true → d + 1 < 32)
-    go true t f = (let m : n ≡ d = cc in omega (arith, ltb-true n 32 t), λ k. never (let p : false ≡ q = cc in cc))
+    go : (b : Bool) → ltb n 32 ≡ b → choose b (accepted (bits false n)) (refused 8) ≡ accepted (bits q d) → InFile q d
+    go true t f =
+        record { lower = let m : n ≡ d = cc in omega (arith, ltb-true n 32 t); upper = λ k. never (let p : false ≡ q = cc in cc) }
     go false t f = never (cc)
 in-file (Q n) q d e = go (ltb n 16) refl e
   where
-    go : (b : Bool) → ltb n 16 ≡ b → choose b (accepted (bits true (2 * n))) (refused 8) ≡ accepted (bits q d) → (d < 32) × (q ≡ true → d + 1 < 32)
-    go true t f = let m : 2 * n ≡ d = cc in let l = ltb-true n 16 t in (omega arith, λ k. omega arith)
+    go : (b : Bool) → ltb n 16 ≡ b → choose b (accepted (bits true (2 * n))) (refused 8) ≡ accepted (bits q d) → InFile q d
+    go true t f = let m : 2 * n ≡ d = cc in let l = ltb-true n 16 t in record { lower = omega arith; upper = λ k. omega arith }
     go false t f = never (cc)
 in-file (S n) q d e = never (cc)
 in-file (Imm v) q d e = never (cc)
@@ -112,46 +134,112 @@ in-file (Float x) q d e = never (cc)
 in-file Other q d e = never (cc)
 in-file Absent q d e = never (cc)
 
-beq-true : (p q : Bool) → Bool·beq p q ≡ true → q ≡ p
-beq-true true true e = refl
-beq-true false false e = refl
-beq-true true false e = never (cc)
-beq-true false true e = never (cc)
+-- lengths that are the same
+same-length : (p q : Bool) → Bool·beq p q ≡ true → p ≡ q
+same-length true true e = refl
+same-length false false e = refl
+same-length true false e = never (cc)
+same-length false true e = never (cc)
 
--- what holds of an operation and its registers, where a is the target's place
-pub record Fits (a : Operand) (op : Operation) (r : Registers) : Type 0 where
-  pub within : Within r
-  pub sized : Sized op
-  pub target : vecBits a ≡ accepted (bits (r .quad) (r .d))
+pub same-lengths : (x y : Lengths) → sameLengths x y ≡ true → x ≡ y
+same-lengths x y e =
+    let h = both-true (Bool·beq (x .d) (y .d)) _ e in
+    let k = both-true (Bool·beq (x .n) (y .n)) _ (h .1) in
+    λ i. lengths (same-length (x .d) (y .d) (h .0) i) (same-length (x .n) (y .n) (k .0) i) (same-length (x .m) (y .m) (k .1) i)
 
--- an operation on registers that were read
-module _ (o : Operation) (a b c : Operand) (s : Sized o) (op : Operation) (r : Registers) where
-  fits : (x y z : Answer Bits) → vecBits a ≡ x → vecBits b ≡ y → vecBits c ≡ z → acting o x y z ≡ accepted (act op r) → Fits a op r
+-- an operation whose constant, if it has one, is of 64 bits
+abbrev pub Constant64 : Act → Type 0
+Constant64 (act op r) = Sized op
+Constant64 (double op w r) = Unit
+
+-- what holds of an act whose target is in the place a
+pub record Fits (a : Operand) (x : Act) : Type 0 where
+  pub within : Within (lengthsIn x) (numbersIn x .d) (numbersIn x .n) (numbersIn x .m)
+  pub sized : Constant64 x
+  pub target : vecBits a ≡ accepted (bits (lengthsIn x .d) (numbersIn x .d))
+
+-- registers that were found
+record Found3 (a b c : Operand) (l : Lengths) (r : Numbers) : Type 0 where
+  inside : Within l (r .d) (r .n) (r .m)
+  first : vecBits a ≡ accepted (bits (l .d) (r .d))
+
+found3 : (a b c : Operand) (x y z : Answer Bits) (l : Lengths) (r : Numbers) → vecBits a ≡ x → vecBits b ≡ y → vecBits c ≡ z
+    → gathered x y z ≡ accepted (trio l r) → Found3 a b c l r
+unfolding gathered
+found3 a b c (accepted (bits p d)) (accepted (bits q n)) (accepted (bits t m)) l r ea eb ec e =
+    let kl : lengths p q t ≡ l = cc in
+    let kr : numbers d n m ≡ r = cc in
+    rw (← kl, ← kr)
+    (record {
+      inside = record { target = in-file a p d ea; first = in-file b q n eb; second = in-file c t m ec };
+      first = ea;
+    })
+found3 a b c (accepted (bits p d)) (accepted (bits q n)) (refused k) l r ea eb ec e = never (cc)
+found3 a b c (accepted (bits p d)) (refused k) z l r ea eb ec e = never (cc)
+found3 a b c (refused k) y z l r ea eb ec e = never (cc)
+
+-- an operation on registers that were read, of one length or of its own
+module _ (a b c : Operand) (x : Act) where
+  found : (l : Lengths) (r : Numbers) → gathered (vecBits a) (vecBits b) (vecBits c) ≡ accepted (trio l r) → Found3 a b c l r
+  found l r e = found3 a b c (vecBits a) (vecBits b) (vecBits c) l r refl refl refl e
+
+  acted : (op : Operation) → Sized op → (g : Answer Trio) → gathered (vecBits a) (vecBits b) (vecBits c) ≡ g → acting op g ≡ accepted x → Fits a x
   unfolding acting
-  fits (accepted (bits p d)) (accepted (bits q n)) (accepted (bits t m)) ea eb ec e = go (Bool·beq p q) refl (Bool·beq p t) refl e
+  acted op s (accepted (trio l r)) eg e = go (sameLengths l (lengths (l .d) (l .d) (l .d))) refl e
     where
-      go : (u : Bool) → Bool·beq p q ≡ u → (v : Bool) → Bool·beq p t ≡ v
-          → choose u (choose v (accepted (act o (registers p d n m))) (refused 10)) (refused 10) ≡ accepted (act op r) → Fits a op r
-      go true hu true hv f =
-          let same : registers p d n m ≡ r = cc in
-          let k : o ≡ op = cc in
-          let fa = in-file a p d ea in
-          let fb = in-file b p n (rw (beq-true p q hu) at eb) in
-          let fc = in-file c p m (rw (beq-true p t hv) at ec) in
-          subst (λ (r : Registers). Fits a op r) same
+      go : (t : Bool) → sameLengths l (lengths (l .d) (l .d) (l .d)) ≡ t
+          → choose t (accepted (act op (registers (l .d) (r .d) (r .n) (r .m)))) (refused 10) ≡ accepted x → Fits a x
+      go true h f =
+          let k : act op (registers (l .d) (r .d) (r .n) (r .m)) ≡ x = cc in
+          let is = found l r eg in
+          subst (Fits a) k
           (record {
-            within = record { lower = (fa .0, fb .0, fc .0); upper = λ h. (fa .1 h, fb .1 h, fc .1 h) };
-            sized = subst Sized k s;
-            target = ea;
+            within = subst (λ (j : Lengths). Within j (r .d) (r .n) (r .m)) (same-lengths l (lengths (l .d) (l .d) (l .d)) h) (is .inside);
+            sized = s;
+            target = is .first;
           })
-      go true hu false hv f = never (cc)
-      go false hu v hv f = never (cc)
-  fits (accepted (bits p d)) (accepted (bits q n)) (refused k) ea eb ec e = never (cc)
-  fits (accepted (bits p d)) (refused k) z ea eb ec e = never (cc)
-  fits (refused k) y z ea eb ec e = never (cc)
+      go false h f = never (cc)
+  acted op s (refused n) eg e = never (cc)
 
-pub meant : (i : Insn) (op : Operation) (r : Registers) → meaningOf i ≡ accepted (act op r) → Fits (i .first) op r
+  doubled : (op : DoubleOp) (w : Width) (g : Answer Trio) → gathered (vecBits a) (vecBits b) (vecBits c) ≡ g → doubling op w g ≡ accepted x → Fits a x
+  unfolding doubling
+  doubled op w (accepted (trio l r)) eg e = go (sameLengths l (lengthsOf op)) refl e
+    where
+      go : (t : Bool) → sameLengths l (lengthsOf op) ≡ t → choose t (accepted (double op w r)) (refused 10) ≡ accepted x → Fits a x
+      go true h f =
+          let k : double op w r ≡ x = cc in
+          let is = found l r eg in
+          let same = same-lengths l (lengthsOf op) h in
+          subst (Fits a) k
+          (record {
+            within = subst (λ (j : Lengths). Within j (r .d) (r .n) (r .m)) same (is .inside);
+            sized = tt;
+            target = is .first ∙ ap (λ (j : Lengths). accepted (bits (j .d) (r .d))) same;
+          })
+      go false h f = never (cc)
+  doubled op w (refused n) eg e = never (cc)
+
+pub meant : (i : Insn) (x : Act) → meaningOf i ≡ accepted x → Fits (i .first) x
 meant i =
-    every (λ (x : Answer Act). (op : Operation) (r : Registers) → x ≡ accepted (act op r) → Fits (i .first) op r)
-    (λ n op r e. never (cc)) i
-    (λ o b c s op r e. fits o (i .first) b c s op r (vecBits (i .first)) (vecBits b) (vecBits c) refl refl refl e)
+    any-meaning (λ (g : Answer Act). (x : Act) → g ≡ accepted x → Fits (i .first) x)
+    (λ n x e. never (cc)) i
+    (λ op b c s x e. acted (i .first) b c x op s (gathered (vecBits (i .first)) (vecBits b) (vecBits c)) refl e)
+    (λ op w b c x e. doubled (i .first) b c x op w (gathered (vecBits (i .first)) (vecBits b) (vecBits c)) refl e)
+
+-- an operation on registers of one length
+one-length : (quad : Bool) → sameLengths (lengths quad quad quad) (lengths quad quad quad) ≡ true
+one-length true = refl
+one-length false = refl
+
+pub on-alike : (op : Operation) (a b c : Operand) (quad : Bool) (d n m : ℕ)
+    → vecBits a ≡ accepted (bits quad d) → vecBits b ≡ accepted (bits quad n) → vecBits c ≡ accepted (bits quad m)
+    → on op a b c ≡ accepted (act op (registers quad d n m))
+unfolding gathered acting
+on-alike op a b c quad d n m ea eb ec = rw (ea, eb, ec, one-length quad)
+
+-- and on registers of the operation's own lengths
+pub on-lengths : (op : DoubleOp) (w : Width) (a b c : Operand) (l : Lengths) (d n m : ℕ)
+    → vecBits a ≡ accepted (bits (l .d) d) → vecBits b ≡ accepted (bits (l .n) n) → vecBits c ≡ accepted (bits (l .m) m)
+    → sameLengths l (lengthsOf op) ≡ true → onUnlike op w a b c ≡ accepted (double op w (numbers d n m))
+unfolding gathered doubling
+on-lengths op w a b c l d n m ea eb ec h = rw (ea, eb, ec, h)

@@ -1,11 +1,17 @@
--- For the contract of one of the machine's own functions alone, `perform`.
+-- For the contracts of the machine's own functions alone, which do an operation.
 -- Assumes nothing.
-use mathlib.Core.Bool.{true}
+use mathlib.Core.Bool.{Bool, true}
 use mathlib.Core.Path.{_≡_}
-use Prim.Native.Nat.{_+_, _<_}
-use Rattle.meanings.specs.declared.Registers.{Registers}
+use Prim.Native.Nat.{ℕ, _+_, _<_}
+use Rattle.tables.specs.declared.lengths.Lengths.{Lengths}
 
--- registers that a file of 32 doublewords has
-pub record Within (r : Registers) : Type 0 where
-  pub lower : (r .d < 32) × (r .n < 32) × (r .m < 32)
-  pub upper : r .quad ≡ true → (r .d + 1 < 32) × (r .n + 1 < 32) × (r .m + 1 < 32)
+-- a register that a file of 32 doublewords has
+pub record InFile (quad : Bool) (k : ℕ) : Type 0 where
+  pub lower : k < 32
+  pub upper : quad ≡ true → k + 1 < 32
+
+-- three of them
+pub record Within (l : Lengths) (d n m : ℕ) : Type 0 where
+  pub target : InFile (l .d) d
+  pub first : InFile (l .n) n
+  pub second : InFile (l .m) m

@@ -2,9 +2,14 @@
 ghost use mathlib.Core.Path.{_≡_};
 ghost use Rattle.floats.specs.Answers.{floatFoundAnswer};
 ghost use Rattle.immediates.specs.Answers.{expansionAnswer};
-ghost use Rattle.meanings.specs.Answers.{meaningAnswer};
-ghost use Rattle.meanings.specs.Meaning.{countOf, shiftBy, repeated, wholePattern, patternAt, floatPattern, on, meaningIn, meaningOf};
+ghost use Rattle.fields.specs.Registers.{vecBits};
+ghost use Rattle.meanings.specs.Answers.{gatheredAnswer, meaningAnswer};
+ghost use Rattle.meanings.specs.Meaning.{sameLengths, gathered, countOf, shifting, repeated, wholePattern, patternAt, floatPattern, on, onUnlike, meaningIn, meaningOf};
 ghost use Rattle.forms.specs.declared.Form.the-variants.{Shift, Number, Float};
+use double_lanes::DoubleOp;
+use double_lanes::LongOp;
+use double_lanes::NarrowOp;
+use double_lanes::lengths_of;
 use fields::VectorBits;
 use floats::FloatFound;
 use floats::float_imm8;
@@ -21,6 +26,8 @@ use lanes::LaneOp;
 use operations::BitOp;
 use operations::ConstantOp;
 use operations::Operation;
+use tables::lengths::Lengths;
+use tables::lengths::alike;
 
 // Whether the registers are quadwords, and the numbers of their (lower) doublewords: the target's and the sources'.
 pub struct Registers {
@@ -30,9 +37,23 @@ pub struct Registers {
     pub m: u8,
 }
 
-// What `meaning_of` answers: an operation on registers, or the refusal.
+// The numbers of three registers' (lower) doublewords: the target's and the sources'.
+pub struct Numbers {
+    pub d: u8,
+    pub n: u8,
+    pub m: u8,
+}
+
+// Three operands as registers: which of them are quadwords, and their numbers; or the refusal.
+enum Gathered {
+    Three(Lengths, Numbers),
+    Refused(Refusal),
+}
+
+// What `meaning_of` answers: an operation on registers of one length, or of its own lengths, or the refusal.
 pub enum Meaning {
     Does(Operation, Registers),
+    Doubles(DoubleOp, Width, Numbers),
     Refused(Refusal),
 }
 
@@ -45,35 +66,89 @@ fn count(form: Form) -> u8
         Form::Bits(_) => 3,
         Form::Copy => 2,
         Form::Shift(_, _) => 3,
+        Form::Double(_, _) => 3,
+        Form::Extend(_, _) => 2,
         Form::Number(_, _) => 2,
         Form::Float => 2,
         Form::Nothing => 0,
     }
 }
 
-// An operation on registers of one size.
-fn on_registers(op: Operation, a: Operand, b: Operand, c: Operand) -> Meaning
-    ensures { λ r. ⌜ meaningAnswer r ≡ on op a b c ⌝ }
+fn gather(a: Operand, b: Operand, c: Operand) -> Gathered
+    ensures { λ r. ⌜ gatheredAnswer r ≡ gathered (vecBits a) (vecBits b) (vecBits c) ⌝ }
 {
     let x = fields::vec_bits(a);
     let y = fields::vec_bits(b);
     let z = fields::vec_bits(c);
     let VectorBits::Are(quad, d) = x else {
-        return Meaning::Refused(Refusal::NoMeaning);
+        return Gathered::Refused(Refusal::NoMeaning);
     };
     let VectorBits::Are(quad_n, n) = y else {
-        return Meaning::Refused(Refusal::NoMeaning);
+        return Gathered::Refused(Refusal::NoMeaning);
     };
     let VectorBits::Are(quad_m, m) = z else {
-        return Meaning::Refused(Refusal::NoMeaning);
+        return Gathered::Refused(Refusal::NoMeaning);
     };
-    if quad != quad_n {
-        return Meaning::Refused(Refusal::NoMeaning);
+    Gathered::Three(
+        Lengths {
+            d: quad,
+            n: quad_n,
+            m: quad_m,
+        },
+        Numbers { d, n, m },
+    )
+}
+
+fn same_lengths(x: Lengths, y: Lengths) -> bool
+    ensures { λ r. ⌜ r ≡ sameLengths x y ⌝ }
+{
+    if x.d != y.d {
+        return false;
     }
-    if quad != quad_m {
-        return Meaning::Refused(Refusal::NoMeaning);
+    if x.n != y.n {
+        return false;
     }
-    Meaning::Does(op, Registers { quad, d, n, m })
+    x.m == y.m
+}
+
+// An operation on registers of one length.
+fn on_registers(op: Operation, a: Operand, b: Operand, c: Operand) -> Meaning
+    ensures { λ r. ⌜ meaningAnswer r ≡ on op a b c ⌝ }
+{
+    let found = gather(a, b, c);
+    match found {
+        Gathered::Three(l, r) => {
+            if !same_lengths(l, alike(l.d)) {
+                return Meaning::Refused(Refusal::NoMeaning);
+            }
+            Meaning::Does(
+                op,
+                Registers {
+                    quad: l.d,
+                    d: r.d,
+                    n: r.n,
+                    m: r.m,
+                },
+            )
+        }
+        Gathered::Refused(f) => Meaning::Refused(Refusal::NoMeaning),
+    }
+}
+
+// An operation on registers of its own lengths.
+fn on_unlike(op: DoubleOp, w: Width, a: Operand, b: Operand, c: Operand) -> Meaning
+    ensures { λ r. ⌜ meaningAnswer r ≡ onUnlike op w a b c ⌝ }
+{
+    let found = gather(a, b, c);
+    match found {
+        Gathered::Three(l, r) => {
+            if !same_lengths(l, lengths_of(op)) {
+                return Meaning::Refused(Refusal::NoMeaning);
+            }
+            Meaning::Doubles(op, w, r)
+        }
+        Gathered::Refused(f) => Meaning::Refused(Refusal::NoMeaning),
+    }
 }
 
 // The 64 bits of a whole number.
@@ -116,13 +191,15 @@ fn float_pattern(o: Operand) -> Expansion
     }
 }
 
-// A shift by k places.
-fn shift_by(way: Direction, k: u32) -> LaneOp
-    ensures { λ r. ⌜ r ≡ shiftBy way k ⌝ }
+// A shift of b by k places.
+fn shifted_by(way: Direction, w: Width, k: u32, a: Operand, b: Operand) -> Meaning
+    ensures { λ r. ⌜ meaningAnswer r ≡ shifting way w k a b ⌝ }
 {
     match way {
-        Direction::Left => LaneOp::Shl(k),
-        Direction::Right(s) => LaneOp::Shr(s, k),
+        Direction::Left => on_registers(Operation::Lanes(LaneOp::Shl(k), w), a, b, b),
+        Direction::Right(s) => on_registers(Operation::Lanes(LaneOp::Shr(s, k), w), a, b, b),
+        Direction::Long(s) => on_unlike(DoubleOp::Long(LongOp::Shl(k), s), w, a, b, b),
+        Direction::Narrow => on_unlike(DoubleOp::Narrow(NarrowOp::Shr(k)), w, a, b, b),
     }
 }
 
@@ -148,8 +225,7 @@ fn shifted(way: Direction, w: Width, a: Operand, b: Operand, c: Operand) -> Mean
             if 64 < k {
                 return Meaning::Refused(Refusal::NoMeaning);
             }
-            let by = shift_by(way, k as u32);
-            on_registers(Operation::Lanes(by, w), a, b, b)
+            shifted_by(way, w, k as u32, a, b)
         }
         Expansion::Refused(f) => Meaning::Refused(f),
     }
@@ -186,6 +262,8 @@ fn meaning_in(form: Form, a: Operand, b: Operand, c: Operand) -> Meaning
         Form::Bits(op) => on_registers(Operation::Bits(op), a, b, c),
         Form::Copy => on_registers(Operation::Bits(BitOp::Mov), a, b, b),
         Form::Shift(way, w) => shifted(way, w, a, b, c),
+        Form::Double(op, w) => on_unlike(op, w, a, b, c),
+        Form::Extend(s, w) => on_unlike(DoubleOp::Long(LongOp::Mov, s), w, a, b, b),
         Form::Number(op, w) => with_number(op, w, a, b),
         Form::Float => with_float(a, b),
         Form::Nothing => Meaning::Refused(Refusal::NoMeaning),

@@ -13,7 +13,7 @@ use Rattle.laws.specs.Answer.{Answer, accepted, refused}
 use Rattle.laws.proofs.Never.{never}
 use Rattle.insn.specs.declared.Insn.{Insn}
 use Rattle.decode.specs.Reading.{reading}
-use Rattle.meanings.specs.Meaning.{Act, act, meaningOf}
+use Rattle.meanings.specs.Meaning.{Act, meaningOf}
 use Rattle.machine.specs.File.{File}
 use Rattle.machine.specs.Step.{effect, stepBy, stepRead, stepPair}
 use Rattle.runs.specs.Run.{done, stopped, Run, atOnce, after, stepsBy, runPairs, runOf, machineSteps}
@@ -54,9 +54,9 @@ unfolding stepRead stepBy
 step-size hw1 hw2 file next e = read (reading hw1 hw2 0) e
   where
     sized : (a : Answer Act) → stepBy a file ≡ accepted next → length next ≡ length file
-    sized (accepted (act op r)) f =
-        let k : effect op r file ≡ next = cc in
-        subst (λ (l : File). length l ≡ length file) k (effect-size op file r)
+    sized (accepted x) f =
+        let k : effect x file ≡ next = cc in
+        subst (λ (l : File). length l ≡ length file) k (effect-size x file)
     sized (refused n) f = never (cc)
 
     read : (a : Answer Insn) → stepRead a file ≡ accepted next → length next ≡ length file

@@ -88,7 +88,7 @@ module _ (s : Step) where
       let h = p .amount in
       let small = bits-small (s .width) (p .width) in
       let c = right-carried (s .width) (s .amount) (p .width) (omega arith) (omega arith) in
-      (shift-executes (s .amount) (c .0) (reg _ (p .target)) (reg _ (p .a)) (right-known (s .sign) (s .width) (p .width)) (right-classed (s .sign) (s .width) (p .width)) (right-means (s .sign) (s .width) (p .width)) (λ q. (refl, refl)) (omega arith) (c .1), (tt, tt))
+      (shift-executes (Lanes (Shr (signOf (s .sign)) (s .amount)) (widthAt (s .width))) (s .amount) (c .0) (reg _ (p .target)) (reg _ (p .a)) (right-known (s .sign) (s .width) (p .width)) (right-classed (s .sign) (s .width) (p .width)) (right-means (s .sign) (s .width) (p .width)) (λ q. (refl, refl)) (omega arith) (c .1) refl, (tt, tt))
 
   -- the pairs of a step do its operations
   abbrev Written : ℕ → Type 0
@@ -121,7 +121,7 @@ module _ (s : Step) where
                       (λ p. let h = p .amount in
                           let small = bits-small (s .width) (p .width) in
                           let c = left-carried (s .width) (s .amount) (p .width) (p .amount) in
-                          (shift-executes (s .amount) (c .0) (reg _ (p .target)) (reg _ (p .a)) (left-known (s .width) (p .width)) (left-classed (s .width) (p .width)) (left-means (s .width) (p .width)) (λ q. (refl, refl)) (omega arith) (c .1), (tt, tt))),
+                          (shift-executes (Lanes (Shl (s .amount)) (widthAt (s .width))) (s .amount) (c .0) (reg _ (p .target)) (reg _ (p .a)) (left-known (s .width) (p .width)) (left-classed (s .width) (p .width)) (left-means (s .width) (p .width)) (λ q. (refl, refl)) (omega arith) (c .1) refl, (tt, tt))),
                       (
                         (λ p. shifted p (eqb (s .amount) 0) refl),
                         (

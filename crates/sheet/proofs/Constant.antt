@@ -127,7 +127,7 @@ join-byte x b p h g k =
     rw (e, f, or-block 32 x y x y hx k, or-shifted-r b p x h) (omega arith)
 
 module _ (file : File) (r : ℕ) (size : length file ≡ 32) (hr : r < 32) where
-  set-left : (x : ℕ) → x < 2 ^ 32 → effect (Constant Mov (repeated B32 x)) (registers false r r r) file ≡ set file r (twice x)
+  set-left : (x : ℕ) → x < 2 ^ 32 → effect (act (Constant Mov (repeated B32 x)) (registers false r r r)) file ≡ set file r (twice x)
   unfolding resultOf
   set-left x h = rw (double-effect (Constant Mov (repeated B32 x)) file r r r, repeated-word x h, add-zero)
 

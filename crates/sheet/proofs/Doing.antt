@@ -5,11 +5,9 @@ use mathlib.Core.List.{List, [], _∷_, _++_}
 use lib.ListN.{length}
 use Rattle.laws.specs.Answer.{accepted}
 use Rattle.insn.specs.declared.Insn.{Insn}
-use Rattle.operations.specs.declared.Operation.{Operation}
-use Rattle.meanings.specs.declared.Registers.{Registers}
 use Rattle.machine.specs.File.{File, Good}
-use Rattle.meanings.specs.Meaning.{Act, act}
-use Rattle.operations.specs.Operations.{Sized}
+use Rattle.meanings.specs.Meaning.{Act}
+use Rattle.meanings.proofs.Actions.{Constant64}
 use Rattle.runs.specs.Run.{stepsBy, machineSteps}
 use Rattle.machine.specs.Step.{effect}
 use Rattle.machine.proofs.Steps.{effect-good}
@@ -19,24 +17,24 @@ use Rattle.sheet.proofs.Executes.{Executes}
 -- what operations leave, one after another
 unfoldable pub doing : List Act → File → File
 doing [] file = file
-doing (act op r ∷ acts) file = doing acts (effect op r file)
+doing (x ∷ acts) file = doing acts (effect x file)
 
 -- records whose pairs do these operations
 abbrev pub Does : List Insn → List Act → Type 0
 Does [] [] = Unit {0}
-Does [] (act op r ∷ acts) = ⊥
+Does [] (x ∷ acts) = ⊥
 Does (i ∷ is) [] = ⊥
-Does (i ∷ is) (act op r ∷ acts) = Executes i op r × (Sized op × Does is acts)
+Does (i ∷ is) (x ∷ acts) = Executes i x × (Constant64 x × Does is acts)
 
 pub does-append : (is js : List Insn) (xs ys : List Act) → Does is xs → Does js ys → Does (is ++ js) (xs ++ ys)
 does-append [] js [] ys p q = q
-does-append [] js (act op r ∷ xs) ys p q = absurd p
+does-append [] js (x ∷ xs) ys p q = absurd p
 does-append (i ∷ is) js [] ys p q = absurd p
-does-append (i ∷ is) js (act op r ∷ xs) ys p q = (p .0, (p .1 .0, does-append is js xs ys (p .1 .1) q))
+does-append (i ∷ is) js (x ∷ xs) ys p q = (p .0, (p .1 .0, does-append is js xs ys (p .1 .1) q))
 
-pub doing-cons : (op : Operation) (r : Registers) (xs : List Act) (file : File) → doing (act op r ∷ xs) file ≡ doing xs (effect op r file)
+pub doing-cons : (x : Act) (xs : List Act) (file : File) → doing (x ∷ xs) file ≡ doing xs (effect x file)
 unfolding doing
-doing-cons op r xs file = refl
+doing-cons x xs file = refl
 
 pub doing-nil : (file : File) → doing [] file ≡ file
 unfolding doing
@@ -45,20 +43,20 @@ doing-nil file = refl
 pub doing-append : (xs ys : List Act) (file : File) → doing (xs ++ ys) file ≡ doing ys (doing xs file)
 unfolding doing
 doing-append [] ys file = refl
-doing-append (act op r ∷ xs) ys file = doing-append xs ys (effect op r file)
+doing-append (x ∷ xs) ys file = doing-append xs ys (effect x file)
 
 -- the file stays 32 numbers of 64 bits
 pub doing-good : (is : List Insn) (xs : List Act) (file : File) → Does is xs → Good file → Good (doing xs file)
 unfolding doing
 doing-good [] [] file d g = g
-doing-good [] (act op r ∷ xs) file d g = absurd d
+doing-good [] (x ∷ xs) file d g = absurd d
 doing-good (i ∷ is) [] file d g = absurd d
-doing-good (i ∷ is) (act op r ∷ xs) file d g = doing-good is xs (effect op r file) (d .1 .1) (effect-good op file r (d .1 .0) g)
+doing-good (i ∷ is) (x ∷ xs) file d g = doing-good is xs (effect x file) (d .1 .1) (effect-good x file (d .1 .0) g)
 
 -- a machine step a record
 pub code-steps : (is : List Insn) (xs : List Act) (file : File) → Does is xs → machineSteps (length is) (halfwordsOf is) file ≡ accepted (doing xs file)
 unfolding halfwordsOf stepsBy doing
 code-steps [] [] file d = refl
-code-steps [] (act op r ∷ xs) file d = absurd d
+code-steps [] (x ∷ xs) file d = absurd d
 code-steps (i ∷ is) [] file d = absurd d
-code-steps (i ∷ is) (act op r ∷ xs) file d = rw (d .0 .writes .wrote, d .0 .stepped file) (code-steps is xs (effect op r file) (d .1 .1))
+code-steps (i ∷ is) (x ∷ xs) file d = rw (d .0 .writes .wrote, d .0 .stepped file) (code-steps is xs (effect x file) (d .1 .1))

@@ -1,7 +1,7 @@
 -- Records whose pair does an operation on registers.
 -- Assumes nothing.
 use mathlib.Core.Path.{_≡_, refl, ap, _∙_}
-use mathlib.Core.Bool.{Bool, true, false, Bool·beq}
+use mathlib.Core.Bool.{Bool, true, false}
 use Prim.Native.Nat.{ℕ, _*_, _/_, _≤_, _<_}
 use Prim.Native.String.{String}
 use lib.IntN.{pos}
@@ -24,14 +24,14 @@ use Rattle.insn.specs.declared.Width.{Width}
 use Rattle.operations.specs.declared.BitOp.the-variants.{Mov}
 use Rattle.operations.specs.declared.ConstantOp.{ConstantOp}
 use Rattle.operations.specs.declared.Operation.{Operation}
-use Rattle.operations.specs.declared.Operation.the-variants.{Lanes, Bits as Bitwise, Constant}
+use Rattle.operations.specs.declared.Operation.the-variants.{Bits as Bitwise, Constant}
 use Rattle.forms.specs.declared.Direction.{Direction}
 use Rattle.forms.specs.declared.Form.{Form}
 use Rattle.forms.specs.declared.Form.the-variants as form
-use Rattle.meanings.specs.declared.Registers.{Registers}
 use Rattle.machine.specs.File.{File}
 use Rattle.forms.specs.Forms.{formOf}
-use Rattle.meanings.specs.Meaning.{act, registers, acting, on, wholePattern, repeated, shiftBy, countOf, meaningIn, meaningOf}
+use Rattle.meanings.specs.Meaning.{Act, act, registers, on, wholePattern, repeated, shifting, countOf, meaningIn, meaningOf}
+use Rattle.meanings.proofs.Actions.{on-alike}
 use Rattle.machine.specs.Step.{effect, stepBy, stepPair}
 use Rattle.recipes.specs.Pairs.{twoOf, threeOf}
 use Rattle.recipes.proofs.Names.{Known, Classed, copy-known}
@@ -45,10 +45,10 @@ use Rattle.insn.specs.declared.Width.the-variants.{B8, B16, B32, B64}
 use lib.Dec.{lit≤}
 use native.Mathlib.Omega.{arith}
 
--- a record is written as a pair, and the pair's step is the operation's effect
-pub record Executes (i : Insn) (op : Operation) (r : Registers) : Type 0 where
+-- a record is written as a pair, and the pair's step is the act's effect
+pub record Executes (i : Insn) (x : Act) : Type 0 where
   pub writes : Writes i
-  pub stepped : (file : File) → stepPair (writes .hw1) (writes .hw2) file ≡ accepted (effect op r file)
+  pub stepped : (file : File) → stepPair (writes .hw1) (writes .hw2) file ≡ accepted (effect x file)
 
 -- an operand that is register number d, written and read
 pub record Stands (quad : Bool) (x : Operand) (d : ℕ) : Type 0 where
@@ -64,14 +64,9 @@ pub double-stands : (r : ℕ) → r < 32 → Stands false (D r) r
 unfolding vecBits
 double-stands r h = record { is = double-is r h; numbered = rw (lt-ltb r 32 h); held = tt }
 
-alike : (q : Bool) → Bool·beq q q ≡ true
-alike true = refl
-alike false = refl
-
 -- three registers of one length
 acts : {q : Bool} {x y z : Operand} {d n m : ℕ} (op : Operation) → Stands q x d → Stands q y n → Stands q z m → on op x y z ≡ accepted (act op (registers q d n m))
-unfolding acting
-acts {q} op ix iy iz = rw (ix .numbered, iy .numbered, iz .numbered, alike q)
+acts {q} {x} {y} {z} {d} {n} {m} op ix iy iz = on-alike op x y z q d n m (ix .numbered) (iy .numbered) (iz .numbered)
 
 -- what a name means; VSHLL alone has another name where it is read back
 pub record Means (name : String) (f : Form) : Type 0 where
@@ -80,7 +75,7 @@ pub record Means (name : String) (f : Form) : Type 0 where
 
 module _ {q : Bool} {x y z : Operand} {d n m : ℕ} (ix : Stands q x d) (iy : Stands q y n) (iz : Stands q z m) where
   pub three-executes : {name : String} {number cell : ℕ} {f : Form} (op : Operation) → Known false name number (Same3 cell) → Means name f → countOf f ≡ 3
-      → meaningIn f x y z ≡ on op x y z → Executes (threeOf name x y z) op (registers q d n m)
+      → meaningIn f x y z ≡ on op x y z → Executes (threeOf name x y z) (act op (registers q d n m))
   unfolding placeAt meaningOf stepBy
   three-executes {name} op k means counted meant =
       let w = three-writes (ix .is) (iy .is) (iz .is) k in
@@ -92,7 +87,7 @@ module _ {q : Bool} {x y z : Operand} {d n m : ℕ} (ix : Stands q x d) (iy : St
 
 -- VMOV of a register
 pub copy-executes : Means "vmov" form.Copy → {q : Bool} {x y : Operand} {d n : ℕ} → Stands q x d → Stands q y n
-    → Executes (twoOf "vmov" x y) (Bitwise Mov) (registers q d n n)
+    → Executes (twoOf "vmov" x y) (act (Bitwise Mov) (registers q d n n))
 unfolding placeAt meaningOf meaningIn stepBy
 copy-executes means {q} {x} {y} ix iy =
     let w = copy-writes (ix .is) (iy .is) in
@@ -102,17 +97,18 @@ copy-executes means {q} {x} {y} ix iy =
           ∙ rw (copy-known .back, means .formed, acts (Bitwise Mov) ix iy iy);
     }
 
--- a shift by a number
-pub shift-executes : {q : Bool} {x y : Operand} {d n : ℕ} {name : String} {class : ShiftClass} {number column cell : ℕ} {way : Direction} {w : Width} (k amount : ℕ)
+-- a shift by a number, of registers of one length
+pub shift-executes : {q : Bool} {x y : Operand} {d n : ℕ} {name : String} {class : ShiftClass} {number column cell : ℕ} {way : Direction} {w : Width} (op : Operation) (k amount : ℕ)
     → Stands q x d → Stands q y n → Known true name number (Shift cell) → Classed class column cell → Means name (form.Shift way w) → Alike class → k ≤ 64
-    → amountIn class column (Imm (pos k)) ≡ accepted amount → Executes (threeOf name x y (Imm (pos k))) (Lanes (shiftBy way k) w) (registers q d n n)
+    → amountIn class column (Imm (pos k)) ≡ accepted amount → shifting way w k x y ≡ on op x y y
+    → Executes (threeOf name x y (Imm (pos k))) (act op (registers q d n n))
 unfolding placeAt meaningOf meaningIn wholePattern stepBy
-shift-executes {q} {x} {y} {d} {n} {name} {class} {number} {column} {cell} {way} {w} k amount ix iy known classed means same h found =
+shift-executes {q} {x} {y} {d} {n} {name} {class} {number} {column} {cell} {way} {w} op k amount ix iy known classed means same h found meant =
     let p = shift-writes k amount (ix .is) (iy .is) known classed same found in
     record {
       writes = p;
       stepped = λ file. three-back (numberOf name) x y (Imm (pos k)) (rw (known .back) (means .plain)) (p .hw1) (p .hw2) (iy .held) file (p .wrote)
-          ∙ rw (known .back, means .formed, modulo-pos 64 k (omega arith), le-leb k 64 h, acts (Lanes (shiftBy way k) w) ix iy iy);
+          ∙ rw (known .back, means .formed, modulo-pos 64 k (omega arith), le-leb k 64 h, meant, acts op ix iy iy);
     }
 
 -- an element's bits are among the 64 of a whole number
@@ -129,7 +125,7 @@ repeated-whole w v = ap (λ (p : ℕ). copies (64 / bitsOf w) (bitsOf w) p) (cut
 -- a modified immediate
 pub number-executes : {q : Bool} {x : Operand} {d : ℕ} {name : String} {number cell : ℕ} {op : ConstantOp} {w : Width} (v place : ℕ)
     → Stands q x d → Known false name number (Modimm cell) → Means name (form.Number op w) → eqt name "vorr" ≡ false → immediateIn name (Imm (pos v)) ≡ accepted place
-    → Executes (twoOf name x (Imm (pos v))) (Constant op (repeated w v)) (registers q d d d)
+    → Executes (twoOf name x (Imm (pos v))) (act (Constant op (repeated w v)) (registers q d d d))
 unfolding placeAt meaningOf meaningIn wholePattern stepBy
 number-executes {q} {x} {d} {name} {number} {cell} {op} {w} v place ix known means other found =
     let p = number-writes v place (ix .is) known found in

@@ -29,7 +29,7 @@ use Rattle.operations.specs.declared.BitOp.the-variants.{And, Orr, Eor, Orn, Mo
 use Rattle.operations.specs.declared.ConstantOp.the-variants as constant
 use Rattle.operations.specs.declared.Operation.the-variants.{Lanes, Bits, Constant}
 use Rattle.machine.specs.File.{File, Good}
-use Rattle.meanings.specs.Meaning.{registers, repeated}
+use Rattle.meanings.specs.Meaning.{act, registers, repeated}
 use Rattle.operations.specs.Operations.{resultOf}
 use Rattle.machine.specs.Step.{effect}
 use Rattle.machine.proofs.Steps.{effect-size}
@@ -115,8 +115,8 @@ module _ (s : Step) (file : File) (g : Good file) where
       let ht = p .target in
       let ha = p .a in
       let op = Constant constant.Mov (repeated B32 0) in
-      let f1 = effect op (registers true (2 * 14) (2 * 14) (2 * 14)) file in
-      let z1 = effect-size op file (registers true (2 * 14) (2 * 14) (2 * 14)) ∙ g .size in
+      let f1 = effect (act op (registers true (2 * 14) (2 * 14) (2 * 14))) file in
+      let z1 = effect-size (act op (registers true (2 * 14) (2 * 14) (2 * 14))) file ∙ g .size in
       let e1 : paired f1 ≡ set r0 14 0 = quad-row op 14 14 14 file (lit< tt) (lit< tt) (lit< tt) (g .size) in
       let e2 = quad-row (Bits Orn) t 14 (s .a) f1 (omega arith) (lit< tt) (omega arith) z1 in
       let l : length r0 ≡ 16 = paired-length 16 file (g .size) in
@@ -145,10 +145,10 @@ module _ (s : Step) (file : File) (g : Good file) where
       let hc = p .c in
       let picker = rowAt r0 (s .c) in
       let choice = bitOr (bitAnd (rowAt r0 (s .a)) picker) (bitAnd (rowAt r0 (s .b)) (inverted 128 picker)) in
-      let f1 = effect (Bits Mov) (registers true (2 * 14) (2 * s .c) (2 * s .c)) file in
-      let f2 = effect (Bits Bsl) (registers true (2 * 14) (2 * s .a) (2 * s .b)) f1 in
-      let z1 = effect-size (Bits Mov) file (registers true (2 * 14) (2 * s .c) (2 * s .c)) ∙ g .size in
-      let z2 = effect-size (Bits Bsl) f1 (registers true (2 * 14) (2 * s .a) (2 * s .b)) ∙ z1 in
+      let f1 = effect (act (Bits Mov) (registers true (2 * 14) (2 * s .c) (2 * s .c))) file in
+      let f2 = effect (act (Bits Bsl) (registers true (2 * 14) (2 * s .a) (2 * s .b))) f1 in
+      let z1 = effect-size (act (Bits Mov) (registers true (2 * 14) (2 * s .c) (2 * s .c))) file ∙ g .size in
+      let z2 = effect-size (act (Bits Bsl) (registers true (2 * 14) (2 * s .a) (2 * s .b))) f1 ∙ z1 in
       let l : length r0 ≡ 16 = paired-length 16 file (g .size) in
       let e1 : paired f1 ≡ set r0 14 picker = quad-row (Bits Mov) 14 (s .c) (s .c) file (lit< tt) (omega arith) (omega arith) (g .size) in
       let e2 : paired f2 ≡ set r0 14 choice =

@@ -61,7 +61,7 @@ quad op t n m = act op (registers true (2 * t) (2 * n) (2 * m))
 
 module _ (op : Operation) (t n m : ℕ) (file : File) (ht : t < 16) (hn : n < 16) (hm : m < 16) (size : length file ≡ 32) where
   abbrev after : File
-  after = effect op (registers true (2 * t) (2 * n) (2 * m)) file
+  after = effect (quad op t n m) file
 
   -- is one store to a row
   pub quad-row : paired after ≡ set (paired file) t (resultOf 128 op (rowAt (paired file) t) (rowAt (paired file) n) (rowAt (paired file) m))

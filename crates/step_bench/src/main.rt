@@ -1,7 +1,8 @@
 // Steps a list of pairs on one file, round after round, for tools/compare to time.
-// Standard input has the list, every operation at every width once, and then D0 to D31 at the start: 80 lines of two
-// halfwords and 32 of a doubleword, in hexadecimal. The argument says how many rounds; the one line that is written says
-// how many pairs were done and what the registers add up to.
+// Standard input has D0 to D31 at the start and then the list, which goes to its end: 32 lines of a doubleword and at
+// most 255 of two halfwords, in hexadecimal. The gate's has every operation at every width once, the 80 with registers of
+// one length first. The argument says how many rounds; the one line that is written says how many pairs were done and
+// what the registers add up to.
 use libc::STDIN_FILENO;
 use libc::STDOUT_FILENO;
 use machine::Outcome;
@@ -26,34 +27,42 @@ fn decimal(digits: &[u8; 8]) -> u64 {
     value
 }
 
-// The list's halfwords.
-fn code_of(text: &[u8; 1344]) -> [u16; 160] {
-    let mut code = [0u16; 160];
-    let mut k: usize = 0;
-    while k < 160 {
-        code[k] = (field(text, 5 * k, 4) % 65536) as u16;
-        k += 1;
+// How many pairs a text of so many bytes has: 544 are the registers', 10 a pair's.
+fn pairs_in(bytes: usize) -> u8 {
+    if bytes < 544 {
+        return 0;
     }
-    code
+    ((bytes - 544) / 10 % 256) as u8
 }
 
 // The registers at the start.
-fn file_of(text: &[u8; 1344]) -> [u64; 32] {
+fn file_of(text: &[u8; 3094]) -> [u64; 32] {
     let mut file = [0u64; 32];
     let mut k: usize = 0;
     while k < 32 {
-        file[k] = field(text, 800 + 17 * k, 16);
+        file[k] = field(text, 17 * k, 16);
         k += 1;
     }
     file
 }
 
+// The list's halfwords.
+fn code_of(text: &[u8; 3094]) -> [u16; 510] {
+    let mut code = [0u16; 510];
+    let mut k: usize = 0;
+    while k < 510 {
+        code[k] = (field(text, 544 + 5 * k, 4) % 65536) as u16;
+        k += 1;
+    }
+    code
+}
+
 // Every pair of the list once.
-fn round(code: &[u16; 160], before: Tally) -> Tally {
+fn round(code: &[u16; 510], pairs: u8, before: Tally) -> Tally {
     let mut done = before.done;
     let mut file = before.file;
     let mut i: usize = 0;
-    while i < 80 {
+    while i < pairs as usize {
         let stepped = machine::step(file, code[2 * i], code[2 * i + 1]);
         let outcome = stepped.outcome;
         file = stepped.file;
@@ -65,11 +74,11 @@ fn round(code: &[u16; 160], before: Tally) -> Tally {
     Tally { done, file }
 }
 
-fn rounds(n: u64, code: &[u16; 160], file: [u64; 32]) -> Tally {
+fn rounds(n: u64, code: &[u16; 510], pairs: u8, file: [u64; 32]) -> Tally {
     let mut tally = Tally { done: 0, file };
     let mut i: u64 = 0;
     while i < n {
-        tally = round(code, tally);
+        tally = round(code, pairs, tally);
         i += 1;
     }
     tally
@@ -88,10 +97,10 @@ fn sum(file: [u64; 32]) -> u64 {
 fn main() {
     let mut digits = [0u8; 8];
     os::arg(1, &mut digits);
-    let mut text = [0u8; 1344];
-    io::read_full(STDIN_FILENO, &mut text);
+    let mut text = [0u8; 3094];
+    let pairs = pairs_in(io::read_full(STDIN_FILENO, &mut text));
     let code = code_of(&text);
-    let tally = rounds(decimal(&digits), &code, file_of(&text));
+    let tally = rounds(decimal(&digits), &code, pairs, file_of(&text));
     let file = tally.file;
     io::print_decimal(STDOUT_FILENO, tally.done);
     io::write_all(STDOUT_FILENO, b" pairs, registers ");

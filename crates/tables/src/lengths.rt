@@ -35,7 +35,7 @@ pub fn of_shape(shape: DiffShape) -> Lengths
 }
 
 // All of one length.
-fn alike(quad: bool) -> Lengths
+pub fn alike(quad: bool) -> Lengths
     ensures { λ r. ⌜ r ≡ lengths quad quad quad ⌝ }
 {
     Lengths {

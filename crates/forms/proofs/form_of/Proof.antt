@@ -7,9 +7,9 @@ use Rattle.forms.proofs.Numbered.{numbered, formAt, one, no-more}
 use Rattle.forms.proofs.form_of.Statement.{statement}
 use Rattle.forms.proofs.form_of.Tie as tie
 
-last : tie.Need-returns-5
+last : tie.Need-returns-7
 unfolding numbered formAt
-last c = one {f = Copy} 345 refl (c .if5 .taken)
+last c = one {f = Copy} 345 refl (c .if7 .taken)
 
 pub form-of-spec : {M : Type 1} → statement M
 form-of-spec =
@@ -23,5 +23,9 @@ form-of-spec =
     (λ c. search needs)
     (λ c κs. search needs)
     (λ c. search needs)
+    (λ c κs. search needs)
+    (λ c. search needs)
+    (λ c κs. search needs)
+    (λ c. search needs)
     last
-    (λ c. no-more _ (c .before .if4 .left) (c .if5 .left)))
+    (λ c. no-more _ (c .before .if6 .left) (c .if7 .left)))

@@ -6,8 +6,8 @@ use native.Mathlib.Omega.{arith}
 use Rattle.laws.proofs.Range.{values}
 use Rattle.insn.specs.declared.Sign.the-variants.{Unsigned, Signed}
 use Rattle.insn.specs.Widths.{widthAt}
-use Rattle.forms.specs.declared.Direction.the-variants.{Left, Right}
-use Rattle.forms.specs.declared.Form.the-variants.{Shift, Nothing}
+use Rattle.forms.specs.declared.Direction.the-variants as way
+use Rattle.forms.specs.declared.Form.the-variants.{Shift, Extend, Nothing}
 use Rattle.forms.proofs.Numbered.{numbered, formAt, stretch}
 use Rattle.forms.proofs.shift_form.Statement.{statement}
 use Rattle.forms.proofs.shift_form.Tie as tie
@@ -21,9 +21,21 @@ shift-form-spec =
     (λ c κs. tt)
     (λ c κs. tt)
     (λ c κs. tt)
-    (λ c. ap (Shift (Right Signed)) (c .width-at .ensures) ∙ stretch (λ (m : ℕ). Shift (Right Signed) (widthAt (m - 173))) 173 4 refl (c .before .before .pre .0) (c .before .if1 .taken))
-    (λ c. stretch (λ (m : ℕ). Nothing) 177 12 refl (c .before .if1 .left) (c .if2 .taken))
-    (λ c. ap (Shift Left) (c .width-at2 .ensures) ∙ stretch (λ (m : ℕ). Shift Left (widthAt (m - 189))) 189 4 refl (c .before .before .if2 .left) (c .before .if3 .taken))
-    (λ c. stretch (λ (m : ℕ). Nothing) 193 17 refl (c .before .if3 .left) (c .if4 .taken))
-    (λ c. ap (Shift (Right Unsigned)) (c .width-at3 .ensures) ∙ stretch (λ (m : ℕ). Shift (Right Unsigned) (widthAt (m - 210))) 210 4 refl (c .before .before .if4 .left) (c .before .if5 .taken))
-    (λ c. stretch (λ (m : ℕ). Nothing) 214 47 refl (c .if5 .left) (omega arith)))
+    (λ c κs. tt)
+    (λ c κs. tt)
+    (λ c κs. tt)
+    (λ c κs. tt)
+    (λ c κs. tt)
+    (λ c. ap (Shift (way.Right Signed)) (c .width-at .ensures) ∙ stretch (λ (m : ℕ). Shift (way.Right Signed) (widthAt (m - 173))) 173 4 refl (c .before .before .before .pre .0) (c .before .if2 .taken))
+    (λ c. stretch (λ (m : ℕ). Nothing) 177 12 refl (c .before .if2 .left) (c .if3 .taken))
+    (λ c. ap (Shift way.Left) (c .width-at2 .ensures) ∙ stretch (λ (m : ℕ). Shift way.Left (widthAt (m - 189))) 189 4 refl (c .before .before .if3 .left) (c .before .if4 .taken))
+    (λ c. ap (Shift way.Narrow) (c .width-at3 .ensures) ∙ stretch (λ (m : ℕ). Shift way.Narrow (widthAt (m - 193))) 193 3 refl (c .before .before .if4 .left) (c .before .if5 .taken))
+    (λ c. stretch (λ (m : ℕ). Nothing) 196 9 refl (c .before .if5 .left) (c .if6 .taken))
+    (λ c. ap (Shift (way.Long Signed)) (c .width-at4 .ensures) ∙ stretch (λ (m : ℕ). Shift (way.Long Signed) (widthAt (m - 205))) 205 3 refl (c .before .before .if6 .left) (c .before .if7 .taken))
+    (λ c. stretch (λ (m : ℕ). Nothing) 208 2 refl (c .if7 .left) (c .before .before .before .before .before .before .if1 .taken))
+    (λ c. ap (Shift (way.Right Unsigned)) (c .width-at5 .ensures) ∙ stretch (λ (m : ℕ). Shift (way.Right Unsigned) (widthAt (m - 210))) 210 4 refl (c .before .before .if1 .left) (c .before .if8 .taken))
+    (λ c. stretch (λ (m : ℕ). Nothing) 214 36 refl (c .before .if8 .left) (c .if9 .taken))
+    (λ c. ap (Shift (way.Long Unsigned)) (c .width-at6 .ensures) ∙ stretch (λ (m : ℕ). Shift (way.Long Unsigned) (widthAt (m - 250))) 250 3 refl (c .before .before .if9 .left) (c .before .if10 .taken))
+    (λ c. stretch (λ (m : ℕ). Nothing) 253 2 refl (c .before .if10 .left) (c .if11 .taken))
+    (λ c. ap (Extend Signed) (c .width-at7 .ensures) ∙ stretch (λ (m : ℕ). Extend Signed (widthAt (m - 255))) 255 3 refl (c .before .before .if11 .left) (c .before .if12 .taken))
+    (λ c. ap (Extend Unsigned) (c .width-at8 .ensures) ∙ stretch (λ (m : ℕ). Extend Unsigned (widthAt (m - 258))) 258 3 refl (c .before .if12 .left) (omega arith)))

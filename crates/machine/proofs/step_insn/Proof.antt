@@ -5,7 +5,7 @@ use borrow.Author.Needs.{needs}
 use Rattle.laws.specs.Answer.{accepted, refused}
 use Rattle.insn.specs.Refusals.{number}
 use Rattle.meanings.specs.Answers.{meaningAnswer}
-use Rattle.meanings.specs.Meaning.{act, meaningOf}
+use Rattle.meanings.specs.Meaning.{act, double, meaningOf}
 use Rattle.machine.specs.Step.{stepBy}
 use Rattle.meanings.proofs.Actions.{meant}
 use Rattle.machine.proofs.step_insn.Statement.{statement}
@@ -22,7 +22,15 @@ returns c =
 returns-2 : tie.Need-returns-2
 unfolding stepBy
 returns-2 c =
-    let o = c .before .meaning2 .given in
+    let o = c .before .before .meaning2 .given in
+    let b = c .before .before .before .before in
+    let e : meaningOf (b .before .args .i) ≡ accepted (double (o .0 .0) (o .0 .1 .0) (o .0 .1 .1 .0)) = sym (b .meaning-of .ensures) ∙ ap meaningAnswer (o .1) in
+    rw e (ap accepted (c .perform-double .ensures), c .perform-double .ensures)
+
+returns-3 : tie.Need-returns-3
+unfolding stepBy
+returns-3 c =
+    let o = c .before .meaning3 .given in
     let b = c .before .before .before in
     let e : meaningOf (b .before .args .i) ≡ refused (number (o .0 .0)) = sym (b .meaning-of .ensures) ∙ ap meaningAnswer (o .1) in
     rw e (refl, refl)
@@ -34,7 +42,11 @@ step-insn-spec =
     (λ c κs. search needs)
     (λ c. search needs)
     (λ c κs. let b = c .before .before .before in
-    meant (b .before .args .i) _ _ (sym (b .meaning-of .ensures) ∙ ap meaningAnswer (c .before .meaning .given .1)) .within)
+    meant (b .before .args .i) _ (sym (b .meaning-of .ensures) ∙ ap meaningAnswer (c .before .meaning .given .1)) .within)
+    (λ c. search needs)
+    (λ c κs. let b = c .before .before .before in
+    meant (b .before .args .i) _ (sym (b .meaning-of .ensures) ∙ ap meaningAnswer (c .before .meaning2 .given .1)) .within)
     (λ c. search needs)
     returns
-    returns-2)
+    returns-2
+    returns-3)

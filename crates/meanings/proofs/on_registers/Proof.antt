@@ -1,11 +1,34 @@
 -- `meanings::on_registers` meets its contract.
 -- Assumes nothing.
-use mathlib.Core.Bool.{Bool·beq}
+use mathlib.Core.Path.{_≡_, sym, ap, _∙_}
+use mathlib.Core.Bool.{true, false}
 use borrow.Author.Needs.{needs}
 use borrow.Author.Tests.{not-true, not-false}
-use Rattle.meanings.specs.Meaning.{acting}
+use Rattle.tables.specs.declared.lengths.Lengths.{Lengths}
+use Rattle.tables.specs.Lengths.{lengths}
+use Rattle.meanings.specs.Meaning.{sameLengths, acting}
 use Rattle.meanings.proofs.on_registers.Statement.{statement}
 use Rattle.meanings.proofs.on_registers.Tie as tie
+
+returns : tie.Need-returns
+unfolding acting
+returns c =
+    let b = c .before .before in
+    let o = b .before .before .found .given in
+    let l = o .0 .0 in
+    let apart : sameLengths l (lengths (l .d) (l .d) (l .d)) ≡ false =
+    ap (sameLengths l) (sym (b .alike .ensures)) ∙ sym (c .before .same-lengths .ensures) ∙ not-true _ (c .if1 .taken) in
+    rw (← b .before .before .before .before .gather .ensures, o .1, apart)
+
+returns-2 : tie.Need-returns-2
+unfolding acting
+returns-2 c =
+    let b = c .before .before in
+    let o = b .before .before .found .given in
+    let l = o .0 .0 in
+    let alike : sameLengths l (lengths (l .d) (l .d) (l .d)) ≡ true =
+    ap (sameLengths l) (sym (b .alike .ensures)) ∙ sym (c .before .same-lengths .ensures) ∙ not-false _ (c .if1 .left) in
+    rw (← b .before .before .before .before .gather .ensures, o .1, alike)
 
 pub on-registers-spec : {M : Type 1} → statement M
 unfolding acting
@@ -13,29 +36,10 @@ on-registers-spec =
     tie.close
     (tie.spec
     (λ c κs. search needs)
+    (λ c. search needs)
     (λ c κs. search needs)
     (λ c κs. search needs)
+    returns
     (λ c. search needs)
-    (λ c. search needs)
-    (λ c. rw (← c .before .before .before .before .vec-bits .ensures, c .enum-told .given .1))
-    (λ c. search needs)
-    (λ c. search needs)
-    (λ c. let b = c .before .before .before in
-    rw (← b .before .before .before .before .vec-bits .ensures, b .x .given .1, ← b .before .before .before .vec-bits2 .ensures, c .enum-told2 .given .1))
-    (λ c. search needs)
-    (λ c. search needs)
-    (λ c. let y = c .before .before .before in
-    let x = y .before .before .before in
-    rw (← x .before .before .before .before .vec-bits .ensures, x .x .given .1, ← x .before .before .before .vec-bits2 .ensures, y .y .given .1, ← x .before .before .vec-bits3 .ensures, c .enum-told3 .given .1))
-    (λ c. let z = c .before .before in
-    let y = z .before .before .before in
-    let x = y .before .before .before in
-    rw (← x .before .before .before .before .vec-bits .ensures, x .x .given .1, ← x .before .before .before .vec-bits2 .ensures, y .y .given .1, ← x .before .before .vec-bits3 .ensures, z .z .given .1, not-true (Bool·beq (x .x .given .0 .0) (y .y .given .0 .0)) (c .if1 .taken)))
-    (λ c. let z = c .before .before .before in
-    let y = z .before .before .before in
-    let x = y .before .before .before in
-    rw (← x .before .before .before .before .vec-bits .ensures, x .x .given .1, ← x .before .before .before .vec-bits2 .ensures, y .y .given .1, ← x .before .before .vec-bits3 .ensures, z .z .given .1, not-false (Bool·beq (x .x .given .0 .0) (y .y .given .0 .0)) (c .before .if1 .left), not-true (Bool·beq (x .x .given .0 .0) (z .z .given .0 .0)) (c .if2 .taken)))
-    (λ c. let z = c .before .before .before in
-    let y = z .before .before .before in
-    let x = y .before .before .before in
-    rw (← x .before .before .before .before .vec-bits .ensures, x .x .given .1, ← x .before .before .before .vec-bits2 .ensures, y .y .given .1, ← x .before .before .vec-bits3 .ensures, z .z .given .1, not-false (Bool·beq (x .x .given .0 .0) (y .y .given .0 .0)) (c .before .if1 .left), not-false (Bool·beq (x .x .given .0 .0) (z .z .given .0 .0)) (c .if2 .left))))
+    returns-2
+    (λ c. rw (← c .before .before .before .gather .ensures, c .before .found2 .given .1)))

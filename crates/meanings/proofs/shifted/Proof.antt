@@ -16,8 +16,7 @@ shifted-spec =
     (λ c. rw (← c .before .before .before .before .whole-pattern .ensures, c .before .before .amount .given .1, lt-leb _ 64 (c .if1 .taken)))
     (λ c. search needs)
     (λ c κs. search needs)
-    (λ c κs. search needs)
     (λ c. search needs)
-    (λ c. let b = c .before .before .before .before in
-    rw (← b .before .before .whole-pattern .ensures, b .amount .given .1, le-leb _ 64 (c .before .before .if1 .left), ← c .before .shift-by .ensures) (c .on-registers .ensures))
+    (λ c. let b = c .before .before .before in
+    rw (← b .before .before .whole-pattern .ensures, b .amount .given .1, le-leb _ 64 (c .before .if1 .left)) (c .shifted-by .ensures))
     (λ c. rw (← c .before .before .before .whole-pattern .ensures, c .before .amount2 .given .1)))

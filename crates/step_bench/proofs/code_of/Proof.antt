@@ -8,13 +8,14 @@ use Rattle.step_bench.proofs.code_of.Statement.{statement}
 use Rattle.step_bench.proofs.code_of.Tie as tie
 
 abbrev Inv-loop : tie.InvT-loop
-Inv-loop text code₀ k₀ code k = (k ≤ 160) × (length code ≡ 160)
+Inv-loop text code₀ k₀ code k = (k ≤ 510) × (length code ≡ 510)
 
 abbrev μ-loop : tie.MeasureT-loop
-μ-loop text code₀ k₀ code k = 160 - k
+μ-loop text code₀ k₀ code k = 510 - k
 
 pub code-of-spec : {M : Type 1} → statement M
 code-of-spec =
     tie.close
-    (tie.spec Inv-loop μ-loop (λ c. search needs) (λ c. search needs) (λ c κs. search needs) (λ c. search needs)
-    (λ c. search needs) (λ c. search needs) (λ c. search needs) (λ c. search needs) (λ c. search needs) (λ c. search needs))
+    (tie.spec Inv-loop μ-loop (λ c. search needs) (λ c. search needs) (λ c. search needs) (λ c κs. search needs)
+    (λ c. search needs) (λ c. search needs) (λ c. search needs) (λ c. search needs) (λ c. search needs) (λ c. search needs)
+    (λ c. search needs))

@@ -6,10 +6,10 @@ use Rattle.step_bench.proofs.rounds.Statement.{statement}
 use Rattle.step_bench.proofs.rounds.Tie as tie
 
 abbrev Inv-loop : tie.InvT-loop
-Inv-loop n code tally₀ i₀ tally i = i ≤ n
+Inv-loop n code pairs tally₀ i₀ tally i = i ≤ n
 
 abbrev μ-loop : tie.MeasureT-loop
-μ-loop n code tally₀ i₀ tally i = n - i
+μ-loop n code pairs tally₀ i₀ tally i = n - i
 
 pub rounds-spec : {M : Type 1} → statement M
 rounds-spec =

@@ -1,0 +1,49 @@
+-- Whole numbers as differences of two numbers from 0, which linear arithmetic reads: sums, differences and products.
+-- Assumes nothing.
+use mathlib.Core.Path.{_≡_, refl}
+use Prim.Native.Nat.{ℕ, zero, suc, _+_, _*_}
+use native.Mathlib.Omega.{arith}
+use lib.IntN.{ℤ, pos, negsuc, subℕ, negℤ, _+ℤ_, _-ℤ_, _*ℤ_}
+use borrow.Author.Tests.{lt-ltb, le-ltb}
+use Rattle.laws.proofs.Tests.{sides}
+
+-- a whole number is a difference of two numbers from 0
+abbrev pub up : ℤ → ℕ
+up (pos n) = n
+up (negsuc n) = 0
+
+abbrev pub down : ℤ → ℕ
+down (pos n) = 0
+down (negsuc n) = suc n
+
+sub-is : (a b : ℕ) → up (subℕ a b) + b ≡ a + down (subℕ a b)
+sub-is a b = sides b a (λ h. rw (lt-ltb a b h) (omega arith)) (λ h. rw (le-ltb a b h) (omega arith))
+
+neg-up : (z : ℤ) → up (negℤ z) ≡ down z
+neg-up (pos zero) = refl
+neg-up (pos (suc n)) = refl
+neg-up (negsuc n) = refl
+
+neg-down : (z : ℤ) → down (negℤ z) ≡ up z
+neg-down (pos zero) = refl
+neg-down (pos (suc n)) = refl
+neg-down (negsuc n) = refl
+
+pub sum-is : (y z : ℤ) → up (y +ℤ z) + (down y + down z) ≡ up y + up z + down (y +ℤ z)
+sum-is (pos a) (pos b) = omega arith
+sum-is (pos a) (negsuc b) = omega (arith, sub-is a (suc b))
+sum-is (negsuc a) (pos b) = omega (arith, sub-is b (suc a))
+sum-is (negsuc a) (negsuc b) = omega arith
+
+pub minus-is : (y z : ℤ) → up (y -ℤ z) + (down y + up z) ≡ up y + down z + down (y -ℤ z)
+minus-is y z = omega (arith, sum-is y (negℤ z), neg-up z, neg-down z)
+
+pub product-is : (y z : ℤ) → up (y *ℤ z) + (up y * down z + down y * up z) ≡ up y * up z + down y * down z + down (y *ℤ z)
+product-is (pos a) (pos b) = omega arith
+product-is (pos a) (negsuc b) = omega (arith, neg-up (pos (a * suc b)), neg-down (pos (a * suc b)))
+product-is (negsuc a) (pos b) = omega (arith, neg-up (pos (suc a * b)), neg-down (pos (suc a * b)))
+product-is (negsuc a) (negsuc b) = omega arith
+
+-- z is p - q
+abbrev pub Is : ℤ → ℕ → ℕ → Type 0
+Is z p q = up z + q ≡ p + down z
