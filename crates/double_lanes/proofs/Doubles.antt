@@ -9,7 +9,7 @@ use lib.IntN.{ℤ, pos, negsuc, _*ℤ_}
 use lib.Signed.{shrZ}
 use lib.Pow.{pow-pos, pow-mono, field, mod-pow-add, ones-split, ones-sub-lt, high}
 use Rattle.laws.specs.Signed.{modulo}
-use Rattle.laws.proofs.Signed.{modulo-lt}
+use Rattle.laws.proofs.Signed.{modulo-lt, modulo-pos}
 use Rattle.insn.specs.declared.Width.{Width}
 use Rattle.insn.specs.declared.Width.the-variants.{B8, B16, B32, B64}
 use Rattle.insn.specs.Widths.{bitsOf}
@@ -123,3 +123,8 @@ high-half w (negsuc n) =
     let d : (2 ^ w - 1) * 2 ^ w ≡ a * 2 ^ w + q * 2 ^ w = ap (λ (v : ℕ). v * 2 ^ w) g ∙ add-mul a q (2 ^ w) in
     let f : 2 ^ (w + w) - 1 - n % 2 ^ (w + w) ≡ a * 2 ^ w + (2 ^ w - 1 - r) = omega (arith, mod-pow-add n w w, ones-split w w) in
     rw (e, f) (sym (high a w (ones-sub-lt w r)))
+
+-- so that they are those of the 2w bits
+pub high-kept : (w : ℕ) (z : ℤ) → modulo w (shrZ (pos (modulo (2 * w) z)) (2 ^ w)) ≡ modulo w (shrZ z (2 ^ w))
+high-kept w z =
+    high-half w (pos (modulo (2 * w) z)) ∙ ap (λ (x : ℕ). x / 2 ^ w) (modulo-pos (2 * w) (modulo (2 * w) z) (modulo-lt (2 * w) z)) ∙ sym (high-half w z)

@@ -1,6 +1,6 @@
 -- Every pair that is read as a listed name has a meaning: antt computes the forms of each table's names.
 -- Assumes nothing.
-use mathlib.Core.Path.{_≡_, refl, sym, ap, _∙_}
+use mathlib.Core.Path.{_≡_, refl, ap, _∙_}
 use mathlib.Core.Bool.{Bool, true, false}
 use Prim.Native.Nat.{ℕ, _+_, _-_, _*_, _<_}
 use Prim.Native.String.{String}
@@ -10,7 +10,7 @@ use lib.IntN.{pos}
 use lib.ListN.{getD}
 use lib.Text.{eqt}
 use borrow.Author.Tests.{leb-true, le-leb}
-use Rattle.laws.specs.Answer.{Answer, accepted}
+use Rattle.laws.specs.Answer.{accepted}
 use Rattle.laws.specs.Choice.{choose, both}
 use Rattle.laws.proofs.Range.{values, agree2}
 use Rattle.laws.proofs.Never.{never, wrong}

@@ -1,52 +1,39 @@
 -- `double_lanes::narrow_lane` meets its contract.
 -- Assumes nothing.
-use mathlib.Core.Path.{sym, _∙_, ap}
-use Prim.Native.Nat.{ℕ, _*_, _/_, _%_, _^_}
-use native.Mathlib.Omega.{arith}
+use mathlib.Core.Path.{_≡_, _∙_, ap}
+use Prim.Native.Nat.{ℕ, _*_, _^_}
 use lib.IntN.{pos, _+ℤ_, _-ℤ_}
+use lib.Signed.{shrZ}
 use borrow.Author.Needs.{needs}
 use Rattle.laws.specs.Signed.{modulo}
-use Rattle.arithmetic.proofs.Signs.{right-u}
-use Rattle.double_lanes.proofs.Doubles.{high-half}
+use Rattle.laws.proofs.Signed.{modulo-lt}
+use Rattle.double_lanes.proofs.Doubles.{high-kept}
 use Rattle.double_lanes.proofs.narrow_lane.Statement.{statement}
 use Rattle.double_lanes.proofs.narrow_lane.Tie as tie
 
-returns : tie.Need-returns
+-- a sum modulo 2^2w
+summed : (c : tie.After-sum) → let a = c .before .before .before .args in c .sum .result ≡ modulo (2 * a .w) (pos (a .n) +ℤ pos (a .m))
 unfolding modulo
-returns c =
-    let a = c .before .before .before .before .before .args in
-    let o = c .before .before .before .op .given in
-    rw (o .1)
-    (c .cut .ensures ∙ ap (λ (p : ℕ). p % 2 ^ a .w) (c .before .right .ensures ∙ right-u (2 * a .w) (a .n) (o .0 .0) (omega arith)))
-
--- the high half of what a sum or a difference left
-returns-2 : tie.Need-returns-2
-unfolding modulo
-returns-2 c =
-    let a = c .before .before .before .args in
-    rw (c .before .enum-told .given .1) (ap (λ (p : ℕ). p / 2 ^ a .w) (c .sum .ensures) ∙ sym (high-half (a .w) (pos (a .n) +ℤ pos (a .m))))
-
-returns-3 : tie.Need-returns-3
-returns-3 c =
-    let a = c .before .before .before .args in
-    rw (c .before .enum-told2 .given .1) (ap (λ (p : ℕ). p / 2 ^ a .w) (c .difference .ensures) ∙ sym (high-half (a .w) (pos (a .n) -ℤ pos (a .m))))
+summed c = c .sum .ensures
 
 pub narrow-lane-spec : {M : Type 1} → statement M
 narrow-lane-spec =
     tie.close
     (tie.spec
     (λ c. search needs)
-    (λ c. search needs)
-    (λ c κs. search needs)
     (λ c κs. search needs)
     (λ c. search needs)
     (λ c. search needs)
     (λ c κs. search needs)
-    (λ c. search needs)
+    (λ c κs. (c .before .before .before .pre .0, rw (summed c) (modulo-lt _ _)))
     (λ c. search needs)
     (λ c. search needs)
     (λ c κs. search needs)
-    (λ c. search needs)
-    returns
-    returns-2
-    returns-3)
+    (λ c κs. (c .before .before .before .pre .0, rw (c .difference .ensures) (modulo-lt _ _)))
+    (λ c. rw (c .before .before .op .given .1) (c .kept .ensures))
+    (λ c. let a = c .before .before .before .before .args in
+    rw (c .before .before .enum-told .given .1)
+    (c .kept2 .ensures ∙ ap (λ (x : ℕ). modulo (a .w) (shrZ (pos x) (2 ^ a .w))) (summed (c .before)) ∙ high-kept (a .w) (pos (a .n) +ℤ pos (a .m))))
+    (λ c. let a = c .before .before .before .before .args in
+    rw (c .before .before .enum-told2 .given .1)
+    (c .kept3 .ensures ∙ ap (λ (x : ℕ). modulo (a .w) (shrZ (pos x) (2 ^ a .w))) (c .before .difference .ensures) ∙ high-kept (a .w) (pos (a .n) -ℤ pos (a .m)))))

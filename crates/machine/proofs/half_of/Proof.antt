@@ -1,7 +1,6 @@
 -- `machine::half_of` meets its contract.
 -- Assumes nothing.
 use native.Mathlib.Omega.{arith}
-use borrow.Author.Needs.{needs}
 use Rattle.machine.proofs.half_of.Statement.{statement}
 use Rattle.machine.proofs.half_of.Tie as tie
 

@@ -4,7 +4,6 @@ use mathlib.Core.Path.{_≡_, sym, ap, _∙_}
 use mathlib.Core.Bool.{true, false}
 use borrow.Author.Needs.{needs}
 use borrow.Author.Tests.{not-true, not-false}
-use Rattle.tables.specs.declared.lengths.Lengths.{Lengths}
 use Rattle.tables.specs.Lengths.{lengths}
 use Rattle.meanings.specs.Meaning.{sameLengths, acting}
 use Rattle.meanings.proofs.on_registers.Statement.{statement}
