@@ -1,22 +1,22 @@
 // Operations between lanes of w bits and lanes of 2w bits: a doubleword has lanes of w bits, and a quadword as many of 2w.
 use arithmetic::arith::cut;
 use arithmetic::arith::difference;
+use arithmetic::arith::left;
+use arithmetic::arith::product;
 use arithmetic::arith::sum;
 use arithmetic::whole::extend;
 use arithmetic::whole::right;
 use insn::Sign;
 use insn::Width;
 use insn::widths::bits;
-use lanes::LaneOp;
 use tables::DiffShape;
 use tables::lengths::Lengths;
 use tables::lengths::of_shape;
 ghost use mathlib.Core.Path.{_≡_};
-ghost use Prim.Native.Nat.{ℕ, _+_, _*_, _^_, _<_, _≤_};
+ghost use Prim.Native.Nat.{_+_, _*_, _^_, _<_, _≤_};
 ghost use lib.IntN.{pos};
 ghost use lib.Signed.{shrZ};
 ghost use Rattle.laws.specs.Signed.{modulo};
-ghost use Rattle.lanes.specs.Lane.{laneOf};
 ghost use Rattle.lanes.specs.Promises.{laneAt};
 ghost use Rattle.double_lanes.specs.Double.{shapeOf, lengthsOf, laneBits, exactLong, exactWide, exactNarrow, doubleLane, halfOf};
 
@@ -77,28 +77,30 @@ fn lane_bits(quad: bool, w: u32) -> u32
     if quad { 2 * w } else { w }
 }
 
-// What a long operation does to lanes that are extended.
-fn on_extended(op: LongOp) -> LaneOp
-    ensures { λ r. ⌜ ((w d x y : ℕ) → laneOf r w d x y ≡ modulo w (exactLong op (pos d) (pos x) (pos y))) ⌝ }
+// A lane of w bits, from numbers that stand for the sources modulo 2^w.
+fn long_lane(op: LongOp, w: u32, d: u64, x: u64, y: u64) -> u64
+    requires { ⌜ (0 < w) × (w ≤ 64) ⌝ }
+    ensures { λ r. ⌜ r ≡ modulo w (exactLong op (pos d) (pos x) (pos y)) ⌝ }
 {
     match op {
-        LongOp::Add => LaneOp::Add,
-        LongOp::Sub => LaneOp::Sub,
-        LongOp::Mul => LaneOp::Mul,
-        LongOp::Mla => LaneOp::Mla,
-        LongOp::Mls => LaneOp::Mls,
-        LongOp::Mov => LaneOp::Shl(0),
-        LongOp::Shl(k) => LaneOp::Shl(k),
+        LongOp::Add => sum(w, x, y),
+        LongOp::Sub => difference(w, x, y),
+        LongOp::Mul => cut(w, product(x, y)),
+        LongOp::Mla => sum(w, d, product(x, y)),
+        LongOp::Mls => difference(w, d, product(x, y)),
+        LongOp::Mov => cut(w, x),
+        LongOp::Shl(k) => left(w, x, k),
     }
 }
 
-// And a wide one, whose second source alone is.
-fn on_wide(op: WideOp) -> LaneOp
-    ensures { λ r. ⌜ ((w d x y : ℕ) → laneOf r w d x y ≡ modulo w (exactWide op (pos x) (pos y))) ⌝ }
+// The same, where the first source has w bits itself.
+fn wide_lane(op: WideOp, w: u32, x: u64, y: u64) -> u64
+    requires { ⌜ (0 < w) × (w ≤ 64) ⌝ }
+    ensures { λ r. ⌜ r ≡ modulo w (exactWide op (pos x) (pos y)) ⌝ }
 {
     match op {
-        WideOp::Add => LaneOp::Add,
-        WideOp::Sub => LaneOp::Sub,
+        WideOp::Add => sum(w, x, y),
+        WideOp::Sub => difference(w, x, y),
     }
 }
 
@@ -128,14 +130,8 @@ fn lane(op: DoubleOp, w: u32, d: u64, n: u64, m: u64) -> u64
     ensures { λ r. ⌜ r ≡ doubleLane op w d n m ⌝ }
 {
     match op {
-        DoubleOp::Long(o, s) => {
-            let by = on_extended(o);
-            lanes::lane(by, 2 * w, d, extend(s, w, n), extend(s, w, m))
-        }
-        DoubleOp::Wide(o, s) => {
-            let by = on_wide(o);
-            lanes::lane(by, 2 * w, d, n, extend(s, w, m))
-        }
+        DoubleOp::Long(o, s) => long_lane(o, 2 * w, d, extend(s, w, n), extend(s, w, m)),
+        DoubleOp::Wide(o, s) => wide_lane(o, 2 * w, n, extend(s, w, m)),
         DoubleOp::Narrow(o) => narrow_lane(o, w, n, m),
     }
 }

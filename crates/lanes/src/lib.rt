@@ -34,7 +34,7 @@ pub enum LaneOp {
 }
 
 // One operation on one lane of w bits: d of the old target, n and m of the sources.
-pub fn lane(op: LaneOp, w: u32, d: u64, n: u64, m: u64) -> u64
+fn lane(op: LaneOp, w: u32, d: u64, n: u64, m: u64) -> u64
     requires { ⌜ ((0 < w) × (w ≤ 64)) × ((n < 2 ^ w) × (m < 2 ^ w)) ⌝ }
     ensures { λ r. ⌜ r ≡ laneOf op w d n m ⌝ }
 {

@@ -2,10 +2,8 @@
 -- Assumes nothing.
 use mathlib.Core.Path.{_∙_}
 use Prim.Native.Nat.{_*_}
-use native.Mathlib.Omega.{arith}
 use lib.IntN.{pos}
 use borrow.Author.Needs.{needs}
-use Rattle.laws.proofs.Signed.{modulo-lt}
 use Rattle.arithmetic.specs.Whole.{readAs}
 use Rattle.arithmetic.proofs.Modulo.{itself, stands}
 use Rattle.double_lanes.specs.Double.{exactDouble, doubleLane}
@@ -16,30 +14,26 @@ use Rattle.double_lanes.proofs.lane.Tie as tie
 returns : tie.Need-returns
 unfolding exactDouble doubleLane
 returns c =
-    let b = c .before .before in
-    let o = b .before .before .before .op .given in
-    let a = b .before .before .before .before .before .args in
+    let a = c .before .before .before .before .before .before .args in
+    let o = c .before .before .before .before .op .given in
     let s = o .0 .1 .0 in
-    let x = b .extend .result in
+    let x = c .before .before .extend .result in
     let y = c .before .extend2 .result in
     rw (o .1)
-    (c .lane .ensures
-    ∙ b .before .on-extended .ensures (2 * a .w) (a .d) x y
+    (c .long-lane .ensures
     ∙ long-like (2 * a .w) x y (readAs s (a .w) (a .n)) (readAs s (a .w) (a .m))
-    (stands (2 * a .w) x _ (b .extend .ensures)) (stands (2 * a .w) y _ (c .before .extend2 .ensures)) (o .0 .0) (a .d))
+    (stands (2 * a .w) x _ (c .before .before .extend .ensures)) (stands (2 * a .w) y _ (c .before .extend2 .ensures)) (o .0 .0) (a .d))
 
 returns-2 : tie.Need-returns-2
 unfolding exactDouble doubleLane
 returns-2 c =
-    let b = c .before in
-    let o = b .before .before .before .op2 .given in
-    let a = b .before .before .before .before .before .args in
-    let y = b .extend3 .result in
+    let a = c .before .before .before .before .before .args in
+    let o = c .before .before .before .op2 .given in
+    let y = c .before .extend3 .result in
     rw (o .1)
-    (c .lane2 .ensures
-    ∙ b .before .on-wide .ensures (2 * a .w) (a .d) (a .n) y
+    (c .wide-lane .ensures
     ∙ wide-like (2 * a .w) (a .n) y (pos (a .n)) (readAs (o .0 .1 .0) (a .w) (a .m))
-    (itself (2 * a .w) (a .n)) (stands (2 * a .w) y _ (b .extend3 .ensures)) (o .0 .0))
+    (itself (2 * a .w) (a .n)) (stands (2 * a .w) y _ (c .before .extend3 .ensures)) (o .0 .0))
 
 returns-3 : tie.Need-returns-3
 unfolding exactDouble doubleLane
@@ -50,20 +44,17 @@ lane-spec =
     tie.close
     (tie.spec
     (λ c. search needs)
-    (λ c κs. search needs)
     (λ c. search needs)
-    (λ c κs. let h = rw (c .before .before .op .given .1) at (c .before .before .before .before .pre) in
+    (λ c κs. let h = rw (c .before .op .given .1) at (c .before .before .before .pre) in
     (h .0, h .1 .0))
-    (λ c κs. let h = rw (c .before .before .before .op .given .1) at (c .before .before .before .before .before .pre) in
+    (λ c κs. let h = rw (c .before .before .op .given .1) at (c .before .before .before .before .pre) in
     (h .0, h .1 .1))
-    (λ c κs. ((omega arith, omega arith), (rw (c .before .extend .ensures) (modulo-lt _ _), rw (c .extend2 .ensures) (modulo-lt _ _))))
-    (λ c. search needs)
     (λ c κs. search needs)
     (λ c. search needs)
-    (λ c κs. let h = rw (c .before .before .op2 .given .1) at (c .before .before .before .before .pre) in
+    (λ c. search needs)
+    (λ c κs. let h = rw (c .before .op2 .given .1) at (c .before .before .before .pre) in
     (h .0, h .1 .1))
-    (λ c κs. let h = rw (c .before .before .before .op2 .given .1) at (c .before .before .before .before .before .pre) in
-    ((omega arith, omega arith), (h .1 .0, rw (c .extend3 .ensures) (modulo-lt _ _))))
+    (λ c κs. search needs)
     (λ c. search needs)
     (λ c κs. let h = rw (c .before .op3 .given .1) at (c .before .before .before .pre) in
     (h .0, h .1 .0))
