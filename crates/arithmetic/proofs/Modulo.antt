@@ -1,4 +1,4 @@
--- Sums, differences and products of whole numbers, modulo 2^w: each is that of numbers that stand for them. All over the width.
+-- Sums, differences and products of whole numbers, modulo 2^w: each is that of numbers that are congruent to them. All over the width.
 -- Assumes nothing.
 use mathlib.Core.Path.{_≡_, refl, sym, _∙_, ap}
 use Prim.Native.Nat.{ℕ, suc, _+_, _-_, _*_, _/_, _%_, _^_}
@@ -9,7 +9,7 @@ use lib.Pow.{pow-pos}
 use Rattle.laws.specs.Signed.{modulo}
 use Rattle.laws.proofs.Signed.{modulo-lt}
 use Rattle.arithmetic.proofs.Numbers.{cancel}
-use Rattle.arithmetic.proofs.Wholes.{up, down, Is, sum-is, minus-is, product-is}
+use Rattle.arithmetic.proofs.Wholes.{up, down, Is, plus-whole, minus-whole, times-whole}
 use Rattle.arithmetic.proofs.Signs.{back}
 
 -- numbers that are alike modulo m
@@ -34,9 +34,9 @@ parts : (x y c d : ℕ) → x * y + ((x + c) * d + c * (y + d)) ≡ (x + c) * (y
 parts x y c d = omega (arith, add-mul x c d, mul-add c y d, add-mul x c (y + d), mul-add x y d)
 
 module _ (w : ℕ) where
-  -- x stands for z: they are alike modulo 2^w
-  abbrev pub Stands : ℕ → ℤ → Type 0
-  Stands x z = x % 2 ^ w ≡ modulo w z
+  -- x and z are the same modulo 2^w
+  abbrev pub Congruent : ℕ → ℤ → Type 0
+  Congruent x z = x % 2 ^ w ≡ modulo w z
 
   even : (z : ℤ) → (modulo w z + down z) % 2 ^ w ≡ up z % 2 ^ w
   unfolding modulo
@@ -47,8 +47,8 @@ module _ (w : ℕ) where
       let e : 2 ^ w - 1 - n % 2 ^ w + suc n ≡ n / 2 ^ w * 2 ^ w + 2 ^ w = omega arith in
       ap (λ (x : ℕ). x % 2 ^ w) e ∙ add-mod-right (n / 2 ^ w * 2 ^ w) (2 ^ w) ∙ mul-mod-left (n / 2 ^ w) (2 ^ w) ∙ sym (zero-mod (2 ^ w))
 
-  -- where z is p - q: what gives p with q stands for z, and nothing else
-  from : (r p q : ℕ) (z : ℤ) → Is z p q → (r + q) % 2 ^ w ≡ p % 2 ^ w → Stands r z
+  -- where z is p - q: what gives p with q is congruent to z, and nothing else
+  from : (r p q : ℕ) (z : ℤ) → Is z p q → (r + q) % 2 ^ w ≡ p % 2 ^ w → Congruent r z
   from r p q z e h =
       let a : r + down z + q ≡ r + q + down z = omega arith in
       cancel (2 ^ w) (pow-pos w) r (modulo w z) (down z)
@@ -57,21 +57,17 @@ module _ (w : ℕ) where
       ∙ sym (even z))
       ∙ mod-eq-of-lt (modulo-lt w z)
 
-  over : (x : ℕ) (z : ℤ) → Stands x z → (x + down z) % 2 ^ w ≡ up z % 2 ^ w
+  over : (x : ℕ) (z : ℤ) → Congruent x z → (x + down z) % 2 ^ w ≡ up z % 2 ^ w
   over x z p = add-like (2 ^ w) x (modulo w z) (down z) (down z) (p ∙ sym (mod-eq-of-lt (modulo-lt w z))) refl ∙ even z
 
-  pub itself : (n : ℕ) → Stands n (pos n)
-  unfolding modulo
-  itself n = refl
+  pub congruent : (x : ℕ) (z : ℤ) → x ≡ modulo w z → Congruent x z
+  congruent x z e = rw e (mod-eq-of-lt (modulo-lt w z))
 
-  pub stands : (x : ℕ) (z : ℤ) → x ≡ modulo w z → Stands x z
-  stands x z e = rw e (mod-eq-of-lt (modulo-lt w z))
-
-  module _ (x y : ℕ) (a b : ℤ) (p : Stands x a) (q : Stands y b) where
-    pub plus : Stands (x + y) (a +ℤ b)
+  module _ (x y : ℕ) (a b : ℤ) (p : Congruent x a) (q : Congruent y b) where
+    pub plus : Congruent (x + y) (a +ℤ b)
     plus =
         let e : x + y + (down a + down b) ≡ x + down a + (y + down b) = omega arith in
-        from (x + y) (up a + up b) (down a + down b) (a +ℤ b) (sum-is a b)
+        from (x + y) (up a + up b) (down a + down b) (a +ℤ b) (plus-whole a b)
         (ap (λ (n : ℕ). n % 2 ^ w) e ∙ add-like (2 ^ w) (x + down a) (up a) (y + down b) (up b) (over x a p) (over y b q))
 
     pub minus : modulo w (pos x -ℤ pos y) ≡ modulo w (a -ℤ b)
@@ -81,7 +77,7 @@ module _ (w : ℕ) where
         let g : x + (down a + down b) ≡ x + down a + down b = omega arith in
         let h : r + (down a + up b) ≡ r + down a + up b = omega arith in
         sym (mod-eq-of-lt (modulo-lt w (pos x -ℤ pos y)))
-        ∙ from r (up a + down b) (down a + up b) (a -ℤ b) (minus-is a b)
+        ∙ from r (up a + down b) (down a + up b) (a -ℤ b) (minus-whole a b)
         (ap (λ (n : ℕ). n % 2 ^ w) h
         ∙ add-like (2 ^ w) (r + down a) (r + down a) (up b) (y + down b) refl (sym (over y b q))
         ∙ ap (λ (n : ℕ). n % 2 ^ w) e
@@ -89,12 +85,12 @@ module _ (w : ℕ) where
         ∙ ap (λ (n : ℕ). n % 2 ^ w) g
         ∙ add-like (2 ^ w) (x + down a) (up a) (down b) (down b) (over x a p) refl)
 
-    pub times : Stands (x * y) (a *ℤ b)
+    pub times : Congruent (x * y) (a *ℤ b)
     times =
         let f : x * y + ((x + down a) * down b + down a * (y + down b)) ≡ (x + down a) * (y + down b) + down a * down b = parts x y (down a) (down b) in
         let v = over x a p in
         let u = over y b q in
-        from (x * y) (up a * up b + down a * down b) (up a * down b + down a * up b) (a *ℤ b) (product-is a b)
+        from (x * y) (up a * up b + down a * down b) (up a * down b + down a * up b) (a *ℤ b) (times-whole a b)
         (add-like (2 ^ w) (x * y) (x * y) (up a * down b + down a * up b) ((x + down a) * down b + down a * (y + down b)) refl
         (add-like (2 ^ w) (up a * down b) ((x + down a) * down b) (down a * up b) (down a * (y + down b))
         (mul-like (2 ^ w) (up a) (x + down a) (down b) (down b) (sym v) refl)

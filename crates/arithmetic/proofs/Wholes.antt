@@ -29,20 +29,20 @@ neg-down (pos zero) = refl
 neg-down (pos (suc n)) = refl
 neg-down (negsuc n) = refl
 
-pub sum-is : (y z : ℤ) → up (y +ℤ z) + (down y + down z) ≡ up y + up z + down (y +ℤ z)
-sum-is (pos a) (pos b) = omega arith
-sum-is (pos a) (negsuc b) = omega (arith, sub-is a (suc b))
-sum-is (negsuc a) (pos b) = omega (arith, sub-is b (suc a))
-sum-is (negsuc a) (negsuc b) = omega arith
+pub plus-whole : (y z : ℤ) → up (y +ℤ z) + (down y + down z) ≡ up y + up z + down (y +ℤ z)
+plus-whole (pos a) (pos b) = omega arith
+plus-whole (pos a) (negsuc b) = omega (arith, sub-is a (suc b))
+plus-whole (negsuc a) (pos b) = omega (arith, sub-is b (suc a))
+plus-whole (negsuc a) (negsuc b) = omega arith
 
-pub minus-is : (y z : ℤ) → up (y -ℤ z) + (down y + up z) ≡ up y + down z + down (y -ℤ z)
-minus-is y z = omega (arith, sum-is y (negℤ z), neg-up z, neg-down z)
+pub minus-whole : (y z : ℤ) → up (y -ℤ z) + (down y + up z) ≡ up y + down z + down (y -ℤ z)
+minus-whole y z = omega (arith, plus-whole y (negℤ z), neg-up z, neg-down z)
 
-pub product-is : (y z : ℤ) → up (y *ℤ z) + (up y * down z + down y * up z) ≡ up y * up z + down y * down z + down (y *ℤ z)
-product-is (pos a) (pos b) = omega arith
-product-is (pos a) (negsuc b) = omega (arith, neg-up (pos (a * suc b)), neg-down (pos (a * suc b)))
-product-is (negsuc a) (pos b) = omega (arith, neg-up (pos (suc a * b)), neg-down (pos (suc a * b)))
-product-is (negsuc a) (negsuc b) = omega arith
+pub times-whole : (y z : ℤ) → up (y *ℤ z) + (up y * down z + down y * up z) ≡ up y * up z + down y * down z + down (y *ℤ z)
+times-whole (pos a) (pos b) = omega arith
+times-whole (pos a) (negsuc b) = omega (arith, neg-up (pos (a * suc b)), neg-down (pos (a * suc b)))
+times-whole (negsuc a) (pos b) = omega (arith, neg-up (pos (suc a * b)), neg-down (pos (suc a * b)))
+times-whole (negsuc a) (negsuc b) = omega arith
 
 -- z is p - q
 abbrev pub Is : ℤ → ℕ → ℕ → Type 0

@@ -3,29 +3,30 @@
 use mathlib.Core.Path.{_≡_, refl, sym, _∙_, ap}
 use mathlib.Core.Bool.{Bool, true, false}
 use Prim.Native.Nat.{ℕ, suc, _+_, _-_, _*_, _/_, _%_, _^_, _<_, _≤_}
-use native.Mathlib.Nat.{mod-lt, add-mul, mul-assoc, mul-suc, mul-zero, lt-of-lt-of-le}
+use native.Mathlib.Nat.{mod-lt, add-mul, mul-assoc, mul-left-comm, mul-suc, mul-div-cancel-left, lt-of-lt-of-le}
 use native.Mathlib.Omega.{arith}
 use lib.IntN.{ℤ, pos, negsuc, _*ℤ_}
 use lib.Signed.{shrZ}
-use lib.Pow.{pow-pos, pow-mono, field, mod-pow-add, ones-split, ones-sub-lt, high}
+use lib.Dec.{ltb}
+use lib.Pow.{pow-pos, pow-mono, pow-add, field, mod-pow-add, ones-split, ones-sub-lt, high}
+use borrow.Author.Tests.{ltb-true, ltb-false}
 use Rattle.laws.specs.Signed.{modulo}
 use Rattle.laws.proofs.Signed.{modulo-lt, modulo-pos}
 use Rattle.insn.specs.declared.Width.{Width}
-use Rattle.insn.specs.declared.Width.the-variants.{B8, B16, B32, B64}
-use Rattle.insn.specs.Widths.{bitsOf}
-use Rattle.lanes.specs.Lane.{lanewise}
+use Rattle.insn.specs.Widths.{bitsAt, sizeOf, bitsOf}
 use Rattle.lanes.specs.Promises.{laneAt}
 use Rattle.lanes.proofs.Lanewise.{split, lanes-lt}
-use Rattle.arithmetic.proofs.Modulo.{Stands, plus, minus, times}
+use Rattle.arithmetic.proofs.Modulo.{Congruent, plus, minus, times}
 use Rattle.double_lanes.specs.declared.LongOp.{LongOp}
 use Rattle.double_lanes.specs.declared.LongOp.the-variants as long
 use Rattle.double_lanes.specs.declared.WideOp.{WideOp}
 use Rattle.double_lanes.specs.declared.WideOp.the-variants as wide
 use Rattle.double_lanes.specs.declared.DoubleOp.{DoubleOp}
-use Rattle.double_lanes.specs.Double.{lengthsOf, laneBits, exactLong, exactWide, exactDouble, doubleLane, doubleLanes}
+use Rattle.double_lanes.specs.Double.{lengthsOf, laneBits, exactLong, exactWide, exactDouble, doubleLane, doubleLanes, doubleOf}
+use Rattle.double_lanes.specs.Halves.{halfOf}
 
--- an operation on numbers that stand for the sources
-module _ (w x y : ℕ) (a b : ℤ) (p : Stands w x a) (q : Stands w y b) where
+-- an operation on numbers that are congruent to the sources
+module _ (w x y : ℕ) (a b : ℤ) (p : Congruent w x a) (q : Congruent w y b) where
   pub long-like : (op : LongOp) (d : ℕ) → modulo w (exactLong op (pos d) (pos x) (pos y)) ≡ modulo w (exactLong op (pos d) a b)
   unfolding modulo
   long-like long.Add d = plus w x y a b p q
@@ -47,13 +48,13 @@ unfolding doubleLane
 lane-lt op w d n m = modulo-lt (laneBits (lengthsOf op .d) w) (exactDouble op w d n m)
 
 -- a lane has w or 2w bits, so that twice the room is enough
-pub filled : (q : Bool) (w c : ℕ) → laneBits q w * c ≡ laneBits q (w * c)
-filled true w c = mul-assoc 2 w c
-filled false w c = refl
+pub bits-times : (q : Bool) (w c : ℕ) → laneBits q w * c ≡ laneBits q (w * c)
+bits-times true w c = mul-assoc 2 w c
+bits-times false w c = refl
 
-pub at-most : (q : Bool) {a b : ℕ} → a ≤ b → laneBits q a ≤ laneBits q b
-at-most true h = omega arith
-at-most false h = h
+bits-mono : (q : Bool) {a b : ℕ} → a ≤ b → laneBits q a ≤ laneBits q b
+bits-mono true h = omega arith
+bits-mono false h = h
 
 pub twice : (q : Bool) {a : ℕ} → a ≤ 32 → laneBits q a ≤ 64
 twice true h = omega arith
@@ -65,7 +66,7 @@ module _ (q : Bool) (w u : ℕ) (e : u ≡ laneBits q w) where
   some false z = z
 
   pub fits : (i : ℕ) → 0 < w → w * i + w ≤ 32 → (0 < u) × (u * i + u ≤ 64)
-  fits i z l = rw (e, ← mul-suc, filled q w (suc i)) (some q z, twice q (rw mul-suc l))
+  fits i z l = rw (e, ← mul-suc, bits-times q w (suc i)) (some q z, twice q (rw mul-suc l))
 
 -- a lane has its bits
 pub part-lt : (u v i x r : ℕ) → u ≡ v → r ≡ laneAt u i x → r < 2 ^ v
@@ -77,33 +78,50 @@ unfolding doubleLanes
 lanes-below op w k s d n m l =
     let q = lengthsOf op in
     lt-of-lt-of-le (lanes-lt (doubleLane op w) (laneBits (q .d) w) (laneBits (q .n) w) (laneBits (q .m) w) (lane-lt op w) k d n m)
-    (pow-mono (rw (filled (q .d) w k) (at-most (q .d) l)))
+    (pow-mono (rw (bits-times (q .d) w k) (bits-mono (q .d) l)))
 
--- k lanes below k lanes, where k lanes of w bits fill 32, or there are none
-pub data Fills (w k : ℕ) : Type 0 where
-  full : w * k ≡ 32 → Fills w k
-  empty : k ≡ 0 → Fills w k
+-- lanes of at most 32 bits, which are 8 × 2^size, fill 32 bits and twice as many 64
+size-small : (w : Width) → bitsOf w ≤ 32 → sizeOf w ≤ 2
+size-small w h = go (ltb (sizeOf w) 3) refl
+  where
+    go : (b : Bool) → ltb (sizeOf w) 3 ≡ b → sizeOf w ≤ 2
+    go true e = omega (arith, ltb-true (sizeOf w) 3 e)
+    go false e = absurd (let p : 2 ^ 3 ≤ 2 ^ sizeOf w = pow-mono (ltb-false (sizeOf w) 3 e) in let z : ⊥ = omega arith in z)
 
-pub fills : (w : Width) → Fills (bitsOf w) (32 / bitsOf w)
-fills B8 = full refl
-fills B16 = full refl
-fills B32 = full refl
-fills B64 = empty refl
+fills : (s : ℕ) → s ≤ 2 → (32 / bitsAt s ≡ 2 ^ (2 - s)) × (64 / bitsAt s ≡ 2 * 2 ^ (2 - s)) × (bitsAt s * 2 ^ (2 - s) ≡ 32)
+fills s h =
+    let k = 2 ^ (2 - s) in
+    let e : s + (2 - s) ≡ 2 = omega arith in
+    let f : 2 ^ s * 2 ^ (2 - s) ≡ 4 = sym (pow-add 2 s (2 - s)) ∙ ap (λ (n : ℕ). 2 ^ n) e in
+    let g : bitsAt s * 2 ^ (2 - s) ≡ 32 = mul-assoc 8 (2 ^ s) k ∙ ap (λ (n : ℕ). 8 * n) f in
+    let z : 0 < bitsAt s = omega (arith, pow-pos s) in
+    let t : bitsAt s * (2 * 2 ^ (2 - s)) ≡ 64 = mul-left-comm (bitsAt s) 2 k ∙ ap (λ (n : ℕ). 2 * n) g in
+    (ap (λ (n : ℕ). n / bitsAt s) (sym g) ∙ mul-div-cancel-left k z, ap (λ (n : ℕ). n / bitsAt s) (sym t) ∙ mul-div-cancel-left (2 * k) z, g)
 
-pub two-halves : (op : DoubleOp) (w k : ℕ) → Fills w k → (a b c d e g : ℕ)
+-- k lanes below k lanes, where k lanes of w bits fill 32
+two-halves : (op : DoubleOp) (w k : ℕ) → w * k ≡ 32 → (a b c d e g : ℕ)
     → a < 2 ^ laneBits (lengthsOf op .d) 32 → c < 2 ^ laneBits (lengthsOf op .n) 32 → e < 2 ^ laneBits (lengthsOf op .m) 32
     → let q = lengthsOf op in
     doubleLanes op w (2 * k) (a + 2 ^ laneBits (q .d) 32 * b) (c + 2 ^ laneBits (q .n) 32 * d) (e + 2 ^ laneBits (q .m) 32 * g)
     ≡ doubleLanes op w k a c e + 2 ^ laneBits (q .d) 32 * doubleLanes op w k b d g
-unfolding doubleLanes lanewise
-two-halves op w k (full h) a b c d e g ha hc he =
+unfolding doubleLanes
+two-halves op w k h a b c d e g ha hc he =
     let q = lengthsOf op in
     let two : 2 * k ≡ k + k = omega arith in
-    let f : (q : Bool) → laneBits q 32 ≡ laneBits q w * k = λ q. ap (laneBits q) (sym h) ∙ sym (filled q w k) in
+    let f : (q : Bool) → laneBits q 32 ≡ laneBits q w * k = λ q. ap (laneBits q) (sym h) ∙ sym (bits-times q w k) in
     rw (two, f (q .d), f (q .n), f (q .m))
     (split (doubleLane op w) (laneBits (q .d) w) (laneBits (q .n) w) (laneBits (q .m) w) k k a b c d e g
     (rw (f (q .d)) at ha) (rw (f (q .n)) at hc) (rw (f (q .m)) at he))
-two-halves op w k (empty h) a b c d e g ha hc he = rw (h, mul-zero)
+
+pub whole-halves : (op : DoubleOp) (w : Width) (a b c d e g : ℕ) → bitsOf w ≤ 32
+    → a < 2 ^ laneBits (lengthsOf op .d) 32 → c < 2 ^ laneBits (lengthsOf op .n) 32 → e < 2 ^ laneBits (lengthsOf op .m) 32
+    → let q = lengthsOf op in
+    doubleOf op w (a + 2 ^ laneBits (q .d) 32 * b) (c + 2 ^ laneBits (q .n) 32 * d) (e + 2 ^ laneBits (q .m) 32 * g)
+    ≡ halfOf op w a c e + 2 ^ laneBits (q .d) 32 * halfOf op w b d g
+unfolding doubleOf halfOf
+whole-halves op w a b c d e g narrow ha hc he =
+    let f = fills (sizeOf w) (size-small w narrow) in
+    rw (f .0, f .1) (two-halves op (bitsOf w) (2 ^ (2 - sizeOf w)) (f .2) a b c d e g ha hc he)
 
 -- from bit w on, the low w bits are the high half of 2w bits
 pub high-half : (w : ℕ) (z : ℤ) → modulo w (shrZ z (2 ^ w)) ≡ modulo (2 * w) z / 2 ^ w

@@ -1,25 +1,24 @@
 -- The proofs of what specs/Promises.antt states.
 -- Assumes nothing.
-use mathlib.Core.Path.{_≡_, refl}
-use Prim.Native.Nat.{_*_, _/_}
-use native.Mathlib.Nat.{mul-div-le, mul-left-comm}
-use native.Mathlib.Omega.{arith}
+use mathlib.Core.Path.{refl}
+use Prim.Native.Nat.{_/_}
+use native.Mathlib.Nat.{mul-div-le}
 use Rattle.laws.specs.Signed.{twosComplement, modulo}
 use Rattle.insn.specs.Widths.{bitsOf}
 use Rattle.arithmetic.specs.Whole.{readAs}
 use Rattle.lanes.specs.Lane.{lanewise}
 use Rattle.lanes.proofs.Lanewise.{each}
-use Rattle.double_lanes.specs.Double.{lengthsOf, laneBits, exactDouble, doubleLane, doubleLanes, doubleOf, halfOf}
+use Rattle.double_lanes.specs.Double.{lengthsOf, laneBits, exactDouble, doubleLane, doubleLanes, doubleOf}
+use Rattle.double_lanes.specs.Halves.{halfOf}
 use Rattle.double_lanes.specs.Promises.{EachDouble, DoubleHalves, DoubleLaneBelow, HalfBelow, DoubleBelow, HighHalf, WorkedDoubles}
-use Rattle.double_lanes.proofs.Doubles.{lane-lt, lanes-below, fills, two-halves, high-half}
+use Rattle.double_lanes.proofs.Doubles.{lane-lt, lanes-below, whole-halves, high-half}
 
 pub eachDouble : EachDouble
 unfolding doubleLanes
 eachDouble op w = let q = lengthsOf op in each (doubleLane op w) (laneBits (q .d) w) (laneBits (q .n) w) (laneBits (q .m) w) (lane-lt op w)
 
 pub doubleHalves : DoubleHalves
-unfolding doubleOf halfOf
-doubleHalves op w d d′ n n′ m m′ = two-halves op (bitsOf w) (32 / bitsOf w) (fills w) d d′ n n′ m m′
+doubleHalves op w d d′ n n′ m m′ = whole-halves op w d d′ n n′ m m′
 
 pub doubleLaneBelow : DoubleLaneBelow
 doubleLaneBelow = lane-lt
@@ -30,14 +29,11 @@ halfBelow op w d n m = lanes-below op (bitsOf w) (32 / bitsOf w) 32 d n m (mul-d
 
 pub doubleBelow : DoubleBelow
 unfolding doubleOf
-doubleBelow op w d n m =
-    let l = mul-div-le 32 (bitsOf w) in
-    let e : bitsOf w * (2 * (32 / bitsOf w)) ≡ 2 * (bitsOf w * (32 / bitsOf w)) = mul-left-comm (bitsOf w) 2 (32 / bitsOf w) in
-    lanes-below op (bitsOf w) (2 * (32 / bitsOf w)) 64 d n m (omega arith)
+doubleBelow op w d n m = lanes-below op (bitsOf w) (64 / bitsOf w) 64 d n m (mul-div-le 64 (bitsOf w))
 
 pub highHalf : HighHalf
 highHalf = high-half
 
 pub workedDoubles : WorkedDoubles
 unfolding twosComplement readAs modulo exactDouble doubleLane doubleLanes halfOf lanewise
-workedDoubles = (refl, refl, refl, refl, refl, refl, refl, refl, refl, refl, refl, refl, refl, refl, refl, refl, refl, refl)
+workedDoubles = (refl, refl, refl, refl, refl, refl, refl, refl, refl, refl, refl, refl, refl, refl, refl, refl, refl, refl, refl)

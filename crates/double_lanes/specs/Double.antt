@@ -58,10 +58,10 @@ exactNarrow (narrow.Shr k) w a b = shrZ a (2 ^ k)
 exactNarrow narrow.Add w a b = shrZ (a +ℤ b) (2 ^ w)
 exactNarrow narrow.Sub w a b = shrZ (a -ℤ b) (2 ^ w)
 
--- a source of w bits is read by the name's sign, any other lane from 0
+-- the sources of a long or wide one are read by the name's sign, any other lane from 0
 unfoldable pub exactDouble : DoubleOp → ℕ → ℕ → ℕ → ℕ → ℤ
 exactDouble (Long op s) w d n m = exactLong op (pos d) (readAs s w n) (readAs s w m)
-exactDouble (Wide op s) w d n m = exactWide op (pos n) (readAs s w m)
+exactDouble (Wide op s) w d n m = exactWide op (readAs s (2 * w) n) (readAs s w m)
 exactDouble (Narrow op) w d n m = exactNarrow op w (pos n) (pos m)
 
 -- the lane that is left of it: as many bits as a lane of the target has
@@ -74,10 +74,6 @@ doubleLanes op w k d n m =
     let q = lengthsOf op in
     lanewise (doubleLane op w) (laneBits (q .d) w) (laneBits (q .n) w) (laneBits (q .m) w) k d n m
 
--- at the lanes of whole registers, of 8, 16 or 32 bits in a doubleword: as many in its low half as in its high half
+-- and at all lanes of whole registers, where a doubleword's have the width's bits
 unfoldable pub doubleOf : DoubleOp → Width → ℕ → ℕ → ℕ → ℕ
-doubleOf op w d n m = doubleLanes op (bitsOf w) (2 * (32 / bitsOf w)) d n m
-
--- and at the lanes of one half of each: 64 bits of a quadword, 32 of a doubleword
-unfoldable pub halfOf : DoubleOp → Width → ℕ → ℕ → ℕ → ℕ
-halfOf op w d n m = doubleLanes op (bitsOf w) (32 / bitsOf w) d n m
+doubleOf op w d n m = doubleLanes op (bitsOf w) (64 / bitsOf w) d n m

@@ -1,2 +1,3 @@
 pub mod Double
+pub mod Halves
 pub mod Promises

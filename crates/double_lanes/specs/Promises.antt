@@ -1,12 +1,13 @@
 -- What is promised of lanes of w and 2w bits beyond the contracts; each is proved under its name in proofs/Promises.antt.
 -- Assumes nothing.
 use mathlib.Core.Path.{_≡_}
-use Prim.Native.Nat.{ℕ, _+_, _*_, _/_, _^_, _<_}
+use Prim.Native.Nat.{ℕ, _+_, _*_, _/_, _^_, _<_, _≤_}
 use lib.IntN.{ℤ}
 use lib.Signed.{shrZ}
 use Rattle.laws.specs.Signed.{modulo}
 use Rattle.insn.specs.declared.Width.{Width}
 use Rattle.insn.specs.declared.Width.the-variants.{B16}
+use Rattle.insn.specs.Widths.{bitsOf}
 use Rattle.insn.specs.declared.Sign.the-variants.{Unsigned, Signed}
 use Rattle.lanes.specs.Promises.{laneAt}
 use Rattle.double_lanes.specs.declared.LongOp.the-variants as long
@@ -14,7 +15,8 @@ use Rattle.double_lanes.specs.declared.WideOp.the-variants as wide
 use Rattle.double_lanes.specs.declared.NarrowOp.the-variants as narrow
 use Rattle.double_lanes.specs.declared.DoubleOp.{DoubleOp}
 use Rattle.double_lanes.specs.declared.DoubleOp.the-variants.{Long, Wide, Narrow}
-use Rattle.double_lanes.specs.Double.{lengthsOf, laneBits, doubleLane, doubleLanes, doubleOf, halfOf}
+use Rattle.double_lanes.specs.Double.{lengthsOf, laneBits, doubleLane, doubleLanes, doubleOf}
+use Rattle.double_lanes.specs.Halves.{halfOf}
 
 -- lane i of the result is the operation on lane i of each operand, for every w
 abbrev pub EachDouble : Type 0
@@ -24,10 +26,10 @@ EachDouble =
     laneAt (laneBits (q .d) w) i (doubleLanes op w k d n m)
     ≡ doubleLane op w (laneAt (laneBits (q .d) w) i d) (laneAt (laneBits (q .n) w) i n) (laneAt (laneBits (q .m) w) i m)
 
--- on whole registers it is the operation on their low halves and on their high ones
+-- on whole registers, with lanes of at most 32 bits in a doubleword, it is the operation on their low halves and on their high ones
 abbrev pub DoubleHalves : Type 0
 DoubleHalves =
-    (op : DoubleOp) (w : Width) (d d′ n n′ m m′ : ℕ)
+    (op : DoubleOp) (w : Width) (d d′ n n′ m m′ : ℕ) → bitsOf w ≤ 32
     → let q = lengthsOf op in
     d < 2 ^ laneBits (q .d) 32 → n < 2 ^ laneBits (q .n) 32 → m < 2 ^ laneBits (q .m) 32
     → doubleOf op w (d + 2 ^ laneBits (q .d) 32 * d′) (n + 2 ^ laneBits (q .n) 32 * n′) (m + 2 ^ laneBits (q .m) 32 * m′)
@@ -47,7 +49,7 @@ DoubleBelow = (op : DoubleOp) (w : Width) (d n m : ℕ) → doubleOf op w d n m 
 abbrev pub HighHalf : Type 0
 HighHalf = (w : ℕ) (z : ℤ) → modulo w (shrZ z (2 ^ w)) ≡ modulo (2 * w) z / 2 ^ w
 
--- worked lanes between 8 and 16 bits, the ends of the ranges among them, and a half
+-- worked lanes between 8 and 16 bits, the ends of the ranges among them, one between 32 and 64, and a half
 abbrev pub WorkedDoubles : Type 0
 WorkedDoubles =
     (doubleLane (Long long.Add Unsigned) 8 0 255 255 ≡ 510)
@@ -67,4 +69,5 @@ WorkedDoubles =
     × (doubleLane (Narrow narrow.Add) 8 0 0xff00 0x01ff ≡ 0)
     × (doubleLane (Narrow narrow.Add) 8 0 0x00ff 0x0001 ≡ 1)
     × (doubleLane (Narrow narrow.Sub) 8 0 0 1 ≡ 255)
+    × (doubleLane (Long long.Mul Signed) 32 0 0x8000_0000 0x8000_0000 ≡ 0x4000_0000_0000_0000)
     × (halfOf (Long long.Mul Signed) B16 0 0x8000_ffff 0x8000_0002 ≡ 0x4000_0000_ffff_fffe)

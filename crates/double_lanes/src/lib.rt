@@ -18,7 +18,8 @@ ghost use lib.IntN.{pos};
 ghost use lib.Signed.{shrZ};
 ghost use Rattle.laws.specs.Signed.{modulo};
 ghost use Rattle.lanes.specs.Promises.{laneAt};
-ghost use Rattle.double_lanes.specs.Double.{shapeOf, lengthsOf, laneBits, exactLong, exactWide, exactNarrow, doubleLane, halfOf};
+ghost use Rattle.double_lanes.specs.Double.{shapeOf, lengthsOf, laneBits, exactLong, exactWide, exactNarrow, doubleLane};
+ghost use Rattle.double_lanes.specs.Halves.{halfOf};
 
 // What makes lanes of 2w bits from lanes of w bits, by its instruction's name. A shift carries its amount; it and a move
 // read the first source alone.
@@ -77,7 +78,7 @@ fn lane_bits(quad: bool, w: u32) -> u32
     if quad { 2 * w } else { w }
 }
 
-// A lane of w bits, from numbers that stand for the sources modulo 2^w.
+// A lane of w bits, from numbers that are the sources modulo 2^w.
 fn long_lane(op: LongOp, w: u32, d: u64, x: u64, y: u64) -> u64
     requires { ⌜ (0 < w) × (w ≤ 64) ⌝ }
     ensures { λ r. ⌜ r ≡ modulo w (exactLong op (pos d) (pos x) (pos y)) ⌝ }

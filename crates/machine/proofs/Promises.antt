@@ -36,7 +36,7 @@ taken i file after P each e = go (meaningOf i) refl e
     go (refused n) m f = never (cc)
 
 pub fileKept : FileKept
-fileKept i file after g e = taken i file after Good (λ x k. effect-good x file (k .sized) g) e
+fileKept i file after g e = taken i file after Good (λ x k. effect-good x file (k .sound) g) e
 
 pub onlyTarget : OnlyTarget
 onlyTarget i file after quad d k e v h u =
@@ -87,7 +87,7 @@ pub quadHalves : QuadHalves
 quadHalves op t a b file s g = quad-halves op t a b file s g
 
 pub unlikeHalves : UnlikeHalves
-unlikeHalves op w r file g = unlike-halves op w r file g
+unlikeHalves op w r file narrow g = unlike-halves op w r file narrow g
 
 pub outcomesApart : OutcomesApart
 outcomesApart Done Done f g e = refl

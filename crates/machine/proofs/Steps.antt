@@ -4,23 +4,25 @@ use mathlib.Core.Path.{_≡_, refl, sym, ap, _∙_}
 use mathlib.Core.Bool.{Bool, true, false}
 use mathlib.Core.Logic.{_≢_}
 use mathlib.Core.List.{[], _∷_}
-use Prim.Native.Nat.{ℕ, zero, suc, _+_, _*_, _/_, _%_, _^_, _<_}
+use Prim.Native.Nat.{ℕ, zero, suc, _+_, _*_, _/_, _%_, _^_, _<_, _≤_}
 use native.Mathlib.Omega.{arith}
 use native.Mathlib.Nat.{add-zero, zero-add, mul-comm, add-mul-mod-self-left, add-mul-div-left, mod-eq-of-lt, div-eq-of-lt}
 use lib.ListN.{length, getD, set, length-set}
 use lib.Pow.{pow-pos}
-use lib.Seq.{getD-set-other, set-set}
+use lib.Seq.{getD-set-other}
 use Rattle.insn.specs.declared.Width.{Width}
+use Rattle.insn.specs.Widths.{bitsOf}
 use Rattle.tables.specs.declared.lengths.Lengths.{Lengths}
 use Rattle.double_lanes.specs.declared.DoubleOp.{DoubleOp}
-use Rattle.double_lanes.specs.Double.{lengthsOf, laneBits, halfOf}
+use Rattle.double_lanes.specs.Double.{lengthsOf, laneBits}
 use Rattle.double_lanes.proofs.Promises.{doubleHalves, halfBelow}
 use Rattle.operations.specs.declared.Operation.{Operation}
 use Rattle.meanings.specs.declared.Numbers.{Numbers}
 use Rattle.meanings.specs.declared.Registers.{Registers}
-use Rattle.machine.specs.File.{File, Good, readD, readR, writeR, readHalf, writeHalves}
+use Rattle.machine.specs.File.{File, Good, readD, readR, writeR}
+use Rattle.machine.specs.Halves.{readHalf, writeHalves, halfLeft}
 use Rattle.meanings.specs.Meaning.{Act, act, double, registers, lengthsIn, numbersIn}
-use Rattle.meanings.proofs.Actions.{Constant64}
+use Rattle.meanings.proofs.Actions.{Sound}
 use Rattle.operations.specs.Operations.{resultOf, Sized}
 use Rattle.machine.specs.Step.{effect}
 use Rattle.operations.proofs.Halves.{Halves, low-half, high-half, quad, result-halves, result-lt}
@@ -143,16 +145,15 @@ halves-good true file k low high g l h = set-good (set file k low) (k + 1) high 
 halves-good false file k low high g l h = set-good file k (low + 2 ^ 32 * high) g (omega arith)
 
 -- an operation on registers of unlike length
-module _ (op : DoubleOp) (w : Width) (r : Numbers) (file : File) (g : Good file) where
+module _ (op : DoubleOp) (w : Width) (r : Numbers) (file : File) (narrow : bitsOf w ≤ 32) (g : Good file) where
   abbrev l : Lengths
   l = lengthsOf op
 
-  -- what it leaves in a half of its target
-  abbrev pub halfLeft : ℕ → ℕ
-  halfLeft h = halfOf op w (readHalf (l .d) file (r .d) h) (readHalf (l .n) file (r .n) h) (readHalf (l .m) file (r .m) h)
+  abbrev left : ℕ → ℕ
+  left h = halfLeft op w r file h
 
   -- goes by halves, all read before either is written
-  pub unlike-halves : effect (double op w r) file ≡ writeHalves (l .d) file (r .d) (halfLeft 0) (halfLeft 1)
+  pub unlike-halves : effect (double op w r) file ≡ writeHalves (l .d) file (r .d) (left 0) (left 1)
   unfolding effect
   unlike-halves =
       let d = by-halves (l .d) file (r .d) g in
@@ -163,23 +164,23 @@ module _ (op : DoubleOp) (w : Width) (r : Numbers) (file : File) (g : Good file)
         n .whole,
         m .whole,
         doubleHalves op w (readHalf (l .d) file (r .d) 0) (readHalf (l .d) file (r .d) 1) (readHalf (l .n) file (r .n) 0) (readHalf (l .n) file (r .n) 1)
-            (readHalf (l .m) file (r .m) 0) (readHalf (l .m) file (r .m) 1) (d .below) (n .below) (m .below),
+            (readHalf (l .m) file (r .m) 0) (readHalf (l .m) file (r .m) 1) narrow (d .below) (n .below) (m .below),
       )
-      (write-halves (l .d) file (r .d) (halfLeft 0) (halfLeft 1) (halfBelow op w _ _ _))
+      (write-halves (l .d) file (r .d) (left 0) (left 1) (halfBelow op w _ _ _))
 
-  pub double-good : Good (effect (double op w r) file)
-  double-good = rw unlike-halves (halves-good (l .d) file (r .d) (halfLeft 0) (halfLeft 1) g (halfBelow op w _ _ _) (halfBelow op w _ _ _))
+  unlike-good : Good (effect (double op w r) file)
+  unlike-good = rw unlike-halves (halves-good (l .d) file (r .d) (left 0) (left 1) g (halfBelow op w _ _ _) (halfBelow op w _ _ _))
 
   -- so that these stores are its effect
-  module _ (low high : ℕ) (el : low ≡ halfLeft 0) (eh : high ≡ halfLeft 1) where
+  module _ (low high : ℕ) (el : low ≡ left 0) (eh : high ≡ left 1) where
     pub long-stored : l .d ≡ true → set (set file (r .d) low) (r .d + 1) high ≡ effect (double op w r) file
-    long-stored q = rw (el, eh) (sym (unlike-halves ∙ ap (λ (q : Bool). writeHalves q file (r .d) (halfLeft 0) (halfLeft 1)) q))
+    long-stored q = rw (el, eh) (sym (unlike-halves ∙ ap (λ (q : Bool). writeHalves q file (r .d) (left 0) (left 1)) q))
 
-    pub narrow-stored : l .d ≡ false → set (set file (r .d) low) (r .d) (low + high * 2 ^ 32) ≡ effect (double op w r) file
+    pub narrow-stored : l .d ≡ false → set file (r .d) (low + high * 2 ^ 32) ≡ effect (double op w r) file
     narrow-stored q =
-        rw (set-set, mul-comm high, el, eh) (sym (unlike-halves ∙ ap (λ (q : Bool). writeHalves q file (r .d) (halfLeft 0) (halfLeft 1)) q))
+        rw (mul-comm high, el, eh) (sym (unlike-halves ∙ ap (λ (q : Bool). writeHalves q file (r .d) (left 0) (left 1)) q))
 
 -- an act keeps the file good
-pub effect-good : (x : Act) (file : File) → Constant64 x → Good file → Good (effect x file)
+pub effect-good : (x : Act) (file : File) → Sound x → Good file → Good (effect x file)
 effect-good (act op r) file s g = act-good op file r s g
-effect-good (double op w r) file s g = double-good op w r file g
+effect-good (double op w r) file s g = unlike-good op w r file s g

@@ -30,10 +30,3 @@ readR quad file k = choose quad (readD file k + 2 ^ 64 * readD file (k + 1)) (re
 
 abbrev pub writeR : Bool → File → ℕ → ℕ → File
 writeR quad file k v = choose quad (writeD (writeD file k (v % 2 ^ 64)) (k + 1) (v / 2 ^ 64)) (writeD file k v)
-
--- half h of a register, 0 the low and 1 the high one: a doubleword of a quadword, 32 bits of a doubleword
-abbrev pub readHalf : Bool → File → ℕ → ℕ → ℕ
-readHalf quad file k h = choose quad (readD file (k + h)) (readD file k / 2 ^ (32 * h) % 2 ^ 32)
-
-abbrev pub writeHalves : Bool → File → ℕ → ℕ → ℕ → File
-writeHalves quad file k low high = choose quad (writeD (writeD file k low) (k + 1) high) (writeD file k (low + 2 ^ 32 * high))

@@ -1,4 +1,5 @@
 pub mod File
+pub mod Halves
 pub mod Step
 pub mod Answers
 pub mod Constants

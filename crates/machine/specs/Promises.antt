@@ -3,7 +3,7 @@
 use mathlib.Core.Bool.{Bool, true, false}
 use mathlib.Core.Logic.{_≢_}
 use mathlib.Core.Path.{_≡_}
-use Prim.Native.Nat.{ℕ, _+_, _*_}
+use Prim.Native.Nat.{ℕ, _+_, _*_, _≤_}
 use Rattle.laws.specs.Answer.{accepted}
 use Rattle.insn.specs.declared.Insn.{Insn}
 use Rattle.names.specs.Names.{nameOf}
@@ -14,9 +14,11 @@ use Rattle.operations.specs.declared.Operation.{Operation}
 use Rattle.machine.specs.declared.Outcome.{Outcome}
 use Rattle.machine.specs.Answers.{outcomeAnswer}
 use Rattle.insn.specs.declared.Width.{Width}
+use Rattle.insn.specs.Widths.{bitsOf}
 use Rattle.double_lanes.specs.declared.DoubleOp.{DoubleOp}
-use Rattle.double_lanes.specs.Double.{lengthsOf, halfOf}
-use Rattle.machine.specs.File.{File, Good, readD, readHalf, writeHalves}
+use Rattle.double_lanes.specs.Double.{lengthsOf}
+use Rattle.machine.specs.File.{File, Good, readD}
+use Rattle.machine.specs.Halves.{writeHalves, halfLeft}
 use Rattle.meanings.specs.declared.Numbers.{Numbers}
 use Rattle.meanings.specs.Meaning.{Act, act, double, registers, meaningOf}
 use Rattle.operations.specs.Operations.{Sized}
@@ -49,10 +51,8 @@ QuadHalves =
 -- on registers of unlike length it is that on their low halves and that on their high ones, all read before either is written
 abbrev pub UnlikeHalves : Type 0
 UnlikeHalves =
-    (op : DoubleOp) (w : Width) (r : Numbers) (file : File) → Good file
-    → let l = lengthsOf op in
-    let half : ℕ → ℕ = λ h. halfOf op w (readHalf (l .d) file (r .d) h) (readHalf (l .n) file (r .n) h) (readHalf (l .m) file (r .m) h) in
-    effect (double op w r) file ≡ writeHalves (l .d) file (r .d) (half 0) (half 1)
+    (op : DoubleOp) (w : Width) (r : Numbers) (file : File) → bitsOf w ≤ 32 → Good file
+    → effect (double op w r) file ≡ writeHalves (lengthsOf op .d) file (r .d) (halfLeft op w r file 0) (halfLeft op w r file 1)
 
 -- an answer says which case it is
 abbrev pub OutcomesApart : Type 0

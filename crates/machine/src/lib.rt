@@ -1,9 +1,10 @@
 // The register machine: one instruction on a file of 32 doublewords.
 ghost use mathlib.Core.Path.{_≡_};
-ghost use Prim.Native.Nat.{_<_};
-ghost use Rattle.double_lanes.specs.Double.{lengthsOf, halfOf};
+ghost use Prim.Native.Nat.{_<_, _≤_};
+ghost use Rattle.double_lanes.specs.Double.{lengthsOf};
+ghost use Rattle.insn.specs.Widths.{bitsOf};
 ghost use Rattle.machine.specs.Answers.{steppedAnswer};
-ghost use Rattle.machine.specs.File.{readHalf};
+ghost use Rattle.machine.specs.Halves.{readHalf, halfLeft};
 ghost use Rattle.machine.specs.Step.{effect, stepInsn, stepPair, fileAfter};
 ghost use Rattle.meanings.specs.Meaning.{act, double};
 ghost use Rattle.meanings.specs.Own.{InFile, Within};
@@ -64,7 +65,7 @@ fn half_of(file: &[u64; 32], quad: bool, k: usize, h: usize) -> u64
 // What an operation on registers of unlike length leaves in a half of its target.
 fn half_left(file: &[u64; 32], op: DoubleOp, w: Width, r: Numbers, h: usize) -> u64
     requires { ⌜ Within (lengthsOf op) (r .d) (r .n) (r .m) × (h < 2) ⌝ }
-    ensures { λ v. ⌜ v ≡ halfOf op w (readHalf (lengthsOf op .d) (now (file .entry)) (r .d) h) (readHalf (lengthsOf op .n) (now (file .entry)) (r .n) h) (readHalf (lengthsOf op .m) (now (file .entry)) (r .m) h) ⌝ }
+    ensures { λ v. ⌜ v ≡ halfLeft op w r (now (file .entry)) h ⌝ }
 {
     let l = lengths_of(op);
     let d = half_of(file, l.d, r.d as usize, h);
@@ -74,20 +75,19 @@ fn half_left(file: &[u64; 32], op: DoubleOp, w: Width, r: Numbers, h: usize) -> 
 }
 
 // The file after an operation on registers of unlike length, by halves. The sources are read from the file before it.
-fn perform_double(file: [u64; 32], op: DoubleOp, w: Width, r: Numbers) -> [u64; 32]
-    requires { ⌜ Within (lengthsOf op) (r .d) (r .n) (r .m) ⌝ }
+fn perform_unlike(file: [u64; 32], op: DoubleOp, w: Width, r: Numbers) -> [u64; 32]
+    requires { ⌜ Within (lengthsOf op) (r .d) (r .n) (r .m) × (bitsOf w ≤ 32) ⌝ }
     ensures { λ after. ⌜ after ≡ effect (double op w r) file ⌝ }
 {
     let l = lengths_of(op);
     let d = r.d as usize;
     let low = half_left(&file, op, w, r, 0);
     let mut after = file;
-    after[d] = low;
-    let high = half_left(&file, op, w, r, 1);
     if l.d {
-        after[d + 1] = high;
+        after[d] = low;
+        after[d + 1] = half_left(&file, op, w, r, 1);
     } else {
-        after[d] = low + high * 0x1_0000_0000;
+        after[d] = low + half_left(&file, op, w, r, 1) * 0x1_0000_0000;
     }
     after
 }
@@ -107,10 +107,10 @@ pub fn step_insn(file: [u64; 32], i: Insn) -> Stepped
             }
         }
         Meaning::Doubles(op, w, r) => {
-            let left = perform_double(file, op, w, r);
+            let after = perform_unlike(file, op, w, r);
             Stepped {
                 outcome: Outcome::Done,
-                file: left,
+                file: after,
             }
         }
         Meaning::Refused(f) => Stepped {

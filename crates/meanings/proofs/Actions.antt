@@ -2,11 +2,11 @@
 -- Assumes nothing.
 use mathlib.Core.Path.{_≡_, refl, ap, subst, _∙_}
 use mathlib.Core.Bool.{Bool, true, false, Bool·beq}
-use Prim.Native.Nat.{ℕ, _*_, _^_, _<_}
+use Prim.Native.Nat.{ℕ, _*_, _^_, _<_, _≤_}
 use native.Mathlib.Nat.{mod-lt}
 use native.Mathlib.Omega.{arith}
 use lib.Dec.{ltb, leb, eqb, lit<}
-use borrow.Author.Tests.{ltb-true}
+use borrow.Author.Tests.{ltb-true, leb-true}
 use Rattle.laws.specs.Answer.{Answer, accepted, refused, andThen}
 use Rattle.laws.specs.Choice.{choose}
 use Rattle.insn.specs.declared.Insn.{Insn}
@@ -30,6 +30,9 @@ use Rattle.double_lanes.specs.declared.NarrowOp.the-variants as narrow
 use Rattle.double_lanes.specs.declared.DoubleOp.{DoubleOp}
 use Rattle.double_lanes.specs.declared.DoubleOp.the-variants.{Long, Narrow}
 use Rattle.double_lanes.specs.Double.{lengthsOf}
+use Rattle.insn.specs.Widths.{bitsOf}
+use Rattle.forms.proofs.Promises as forms
+use Rattle.forms.proofs.Promises.{narrowShift}
 use Rattle.operations.specs.declared.BitOp.the-variants.{Mov}
 use Rattle.operations.specs.declared.ConstantOp.the-variants as constant
 use Rattle.operations.specs.declared.Operation.{Operation}
@@ -76,43 +79,43 @@ module _ (P : Answer Act → Type 0) (stop : (n : ℕ) → P (refused n)) where
   pick false h = stop 10
 
   module _ (a : Operand) (each : (op : Operation) (b c : Operand) → Sized op → P (on op a b c))
-      (every : (op : DoubleOp) (w : Width) (b c : Operand) → P (onUnlike op w a b c)) where
-    shift-by : (way : Direction) (w : Width) (k : ℕ) (b : Operand) → P (shifting way w k a b)
-    shift-by way.Left w k b = each (Lanes (Shl k) w) b b tt
-    shift-by (way.Right s) w k b = each (Lanes (Shr s k) w) b b tt
-    shift-by (way.Long s) w k b = every (Long (long.Shl k) s) w b b
-    shift-by way.Narrow w k b = every (Narrow (narrow.Shr k)) w b b
+      (every : (op : DoubleOp) (w : Width) (b c : Operand) → leb (bitsOf w) 32 ≡ true → P (onUnlike op w a b c)) where
+    shift-by : (way : Direction) (w : Width) (k : ℕ) (b : Operand) → narrowShift way w ≡ true → P (shifting way w k a b)
+    shift-by way.Left w k b h = each (Lanes (Shl k) w) b b tt
+    shift-by (way.Right s) w k b h = each (Lanes (Shr s k) w) b b tt
+    shift-by (way.Long s) w k b h = every (Long (long.Shl k) s) w b b h
+    shift-by way.Narrow w k b h = every (Narrow (narrow.Shr k)) w b b h
 
-    in-form : (f : Form) (b c : Operand) → P (meaningIn f a b c)
+    in-form : (f : Form) (b c : Operand) → forms.narrow f ≡ true → P (meaningIn f a b c)
     unfolding meaningIn
-    in-form (form.Lanes op w) b c = each (Lanes op w) b c tt
-    in-form (form.Bits op) b c = each (Bitwise op) b c tt
-    in-form form.Copy b c = each (Bitwise Mov) b b tt
-    in-form (form.Shift way w) b c = go (wholePattern c)
+    in-form (form.Lanes op w) b c n = each (Lanes op w) b c tt
+    in-form (form.Bits op) b c n = each (Bitwise op) b c tt
+    in-form form.Copy b c n = each (Bitwise Mov) b b tt
+    in-form (form.Shift way w) b c n = go (wholePattern c)
       where
         go : (x : Answer ℕ) → P (andThen x (λ k. choose (leb k 64) (shifting way w k a b) (refused 10)))
-        go (accepted k) = pick (leb k 64) (shift-by way w k b)
-        go (refused n) = stop n
-    in-form (form.Double op w) b c = every op w b c
-    in-form (form.Extend s w) b c = every (Long long.Mov s) w b b
-    in-form (form.Number op w) b c = go (wholePattern b)
+        go (accepted k) = pick (leb k 64) (shift-by way w k b n)
+        go (refused m) = stop m
+    in-form (form.Double op w) b c n = every op w b c n
+    in-form (form.Extend s w) b c n = every (Long long.Mov s) w b b n
+    in-form (form.Number op w) b c n = go (wholePattern b)
       where
         go : (x : Answer ℕ) → P (andThen x (λ p. on (Constant op (repeated w p)) a a a))
         go (accepted p) = each (Constant op (repeated w p)) a a (repeated-lt w p)
         go (refused n) = stop n
-    in-form form.Float b c = go (floatPattern b) (float-lt b)
+    in-form form.Float b c n = go (floatPattern b) (float-lt b)
       where
         go : (x : Answer ℕ) → ((p : ℕ) → x ≡ accepted p → p < 2 ^ 64) → P (andThen x (λ p. on (Constant constant.Mov p) a a a))
         go (accepted p) h = each (Constant constant.Mov p) a a (h p refl)
         go (refused n) h = stop n
-    in-form form.Nothing b c = stop 10
+    in-form form.Nothing b c n = stop 10
 
   pub any-meaning : (i : Insn) → ((op : Operation) (b c : Operand) → Sized op → P (on op (i .first) b c))
-      → ((op : DoubleOp) (w : Width) (b c : Operand) → P (onUnlike op w (i .first) b c)) → P (meaningOf i)
+      → ((op : DoubleOp) (w : Width) (b c : Operand) → leb (bitsOf w) 32 ≡ true → P (onUnlike op w (i .first) b c)) → P (meaningOf i)
   unfolding meaningOf
   any-meaning i each every =
       let f = formOf (nameOf (i .mnemonic)) in
-      pick (eqb (i .count) (countOf f)) (in-form (i .first) each every f (i .second) (i .third))
+      pick (eqb (i .count) (countOf f)) (in-form (i .first) each every f (i .second) (i .third) (forms.all-narrow (i .mnemonic)))
 
 -- a register that has a number is in the file
 in-file : (x : Operand) (q : Bool) (d : ℕ) → vecBits x ≡ accepted (bits q d) → InFile q d
@@ -147,24 +150,24 @@ same-lengths x y e =
     let k = both-true (Bool·beq (x .n) (y .n)) _ (h .1) in
     λ i. lengths (same-length (x .d) (y .d) (h .0) i) (same-length (x .n) (y .n) (k .0) i) (same-length (x .m) (y .m) (k .1) i)
 
--- an operation whose constant, if it has one, is of 64 bits
-abbrev pub Constant64 : Act → Type 0
-Constant64 (act op r) = Sized op
-Constant64 (double op w r) = Unit
+-- what holds of the operation: a constant, if it has one, is of 64 bits; lanes of unlike width have at most 32 in a doubleword
+abbrev pub Sound : Act → Type 0
+Sound (act op r) = Sized op
+Sound (double op w r) = bitsOf w ≤ 32
 
 -- what holds of an act whose target is in the place a
 pub record Fits (a : Operand) (x : Act) : Type 0 where
   pub within : Within (lengthsIn x) (numbersIn x .d) (numbersIn x .n) (numbersIn x .m)
-  pub sized : Constant64 x
+  pub sound : Sound x
   pub target : vecBits a ≡ accepted (bits (lengthsIn x .d) (numbersIn x .d))
 
 -- registers that were found
-record Found3 (a b c : Operand) (l : Lengths) (r : Numbers) : Type 0 where
+record Found3 (a : Operand) (l : Lengths) (r : Numbers) : Type 0 where
   inside : Within l (r .d) (r .n) (r .m)
   first : vecBits a ≡ accepted (bits (l .d) (r .d))
 
 found3 : (a b c : Operand) (x y z : Answer Bits) (l : Lengths) (r : Numbers) → vecBits a ≡ x → vecBits b ≡ y → vecBits c ≡ z
-    → gathered x y z ≡ accepted (trio l r) → Found3 a b c l r
+    → gathered x y z ≡ accepted (trio l r) → Found3 a l r
 unfolding gathered
 found3 a b c (accepted (bits p d)) (accepted (bits q n)) (accepted (bits t m)) l r ea eb ec e =
     let kl : lengths p q t ≡ l = cc in
@@ -180,7 +183,7 @@ found3 a b c (refused k) y z l r ea eb ec e = never (cc)
 
 -- an operation on registers that were read, of one length or of its own
 module _ (a b c : Operand) (x : Act) where
-  found : (l : Lengths) (r : Numbers) → gathered (vecBits a) (vecBits b) (vecBits c) ≡ accepted (trio l r) → Found3 a b c l r
+  found : (l : Lengths) (r : Numbers) → gathered (vecBits a) (vecBits b) (vecBits c) ≡ accepted (trio l r) → Found3 a l r
   found l r e = found3 a b c (vecBits a) (vecBits b) (vecBits c) l r refl refl refl e
 
   acted : (op : Operation) → Sized op → (g : Answer Trio) → gathered (vecBits a) (vecBits b) (vecBits c) ≡ g → acting op g ≡ accepted x → Fits a x
@@ -195,15 +198,15 @@ module _ (a b c : Operand) (x : Act) where
           subst (Fits a) k
           (record {
             within = subst (λ (j : Lengths). Within j (r .d) (r .n) (r .m)) (same-lengths l (lengths (l .d) (l .d) (l .d)) h) (is .inside);
-            sized = s;
+            sound = s;
             target = is .first;
           })
       go false h f = never (cc)
   acted op s (refused n) eg e = never (cc)
 
-  doubled : (op : DoubleOp) (w : Width) (g : Answer Trio) → gathered (vecBits a) (vecBits b) (vecBits c) ≡ g → doubling op w g ≡ accepted x → Fits a x
+  doubled : (op : DoubleOp) (w : Width) → leb (bitsOf w) 32 ≡ true → (g : Answer Trio) → gathered (vecBits a) (vecBits b) (vecBits c) ≡ g → doubling op w g ≡ accepted x → Fits a x
   unfolding doubling
-  doubled op w (accepted (trio l r)) eg e = go (sameLengths l (lengthsOf op)) refl e
+  doubled op w s (accepted (trio l r)) eg e = go (sameLengths l (lengthsOf op)) refl e
     where
       go : (t : Bool) → sameLengths l (lengthsOf op) ≡ t → choose t (accepted (double op w r)) (refused 10) ≡ accepted x → Fits a x
       go true h f =
@@ -213,18 +216,18 @@ module _ (a b c : Operand) (x : Act) where
           subst (Fits a) k
           (record {
             within = subst (λ (j : Lengths). Within j (r .d) (r .n) (r .m)) same (is .inside);
-            sized = tt;
+            sound = leb-true (bitsOf w) 32 s;
             target = is .first ∙ ap (λ (j : Lengths). accepted (bits (j .d) (r .d))) same;
           })
       go false h f = never (cc)
-  doubled op w (refused n) eg e = never (cc)
+  doubled op w s (refused n) eg e = never (cc)
 
 pub meant : (i : Insn) (x : Act) → meaningOf i ≡ accepted x → Fits (i .first) x
 meant i =
     any-meaning (λ (g : Answer Act). (x : Act) → g ≡ accepted x → Fits (i .first) x)
     (λ n x e. never (cc)) i
     (λ op b c s x e. acted (i .first) b c x op s (gathered (vecBits (i .first)) (vecBits b) (vecBits c)) refl e)
-    (λ op w b c x e. doubled (i .first) b c x op w (gathered (vecBits (i .first)) (vecBits b) (vecBits c)) refl e)
+    (λ op w b c s x e. doubled (i .first) b c x op w s (gathered (vecBits (i .first)) (vecBits b) (vecBits c)) refl e)
 
 -- an operation on registers of one length
 one-length : (quad : Bool) → sameLengths (lengths quad quad quad) (lengths quad quad quad) ≡ true

@@ -9,8 +9,9 @@ use Rattle.laws.proofs.Never.{never}
 use Rattle.insn.proofs.Promises.{numberedApart}
 use Rattle.meanings.specs.declared.Meaning.the-variants.{Does, Doubles, Refused}
 use Rattle.forms.proofs.Promises.{no-form}
-use Rattle.meanings.specs.Meaning.{Act, meaningIn, meaningOf}
-use Rattle.meanings.specs.Promises.{Unlisted, MeaningsApart}
+use Rattle.meanings.specs.Meaning.{Act, double, meaningIn, meaningOf}
+use Rattle.meanings.specs.Promises.{Unlisted, NarrowLanes, MeaningsApart}
+use Rattle.meanings.proofs.Actions.{meant}
 
 pub unlisted : Unlisted
 unfolding meaningOf meaningIn
@@ -19,6 +20,9 @@ unlisted i e = rw (no-form (i .mnemonic) e) (none (eqb (i .count) 0))
     none : (b : Bool) → _≡_ {A = Answer Act} (choose b (refused 10) (refused 10)) (refused 10)
     none true = refl
     none false = refl
+
+pub narrowLanes : NarrowLanes
+narrowLanes i op w r e = meant i (double op w r) e .sound
 
 pub meaningsApart : MeaningsApart
 meaningsApart (Does p r) (Does q s) e = let k : p ≡ q = cc in let m : r ≡ s = cc in λ i. Does (k i) (m i)

@@ -58,7 +58,7 @@ abbrev pub numbersIn : Act → Numbers
 numbersIn (act op r) = numbers (r .d) (r .n) (r .m)
 numbersIn (double op w r) = r
 
--- three registers, each of any length
+-- three operands that are registers, each of any length
 pub data Trio : Type 0 where
   trio : Lengths → Numbers → Trio
 
@@ -68,6 +68,7 @@ gathered (accepted (bits p d)) (accepted (bits q n)) (refused x) = refused 10
 gathered (accepted (bits p d)) (refused x) c = refused 10
 gathered (refused x) b c = refused 10
 
+-- whether they have the same lengths
 abbrev pub sameLengths : Lengths → Lengths → Bool
 sameLengths x y = both (Bool·beq (x .d) (y .d)) (both (Bool·beq (x .n) (y .n)) (Bool·beq (x .m) (y .m)))
 
@@ -75,7 +76,7 @@ sameLengths x y = both (Bool·beq (x .d) (y .d)) (both (Bool·beq (x .n) (y .n))
 unfoldable pub acting : Operation → Answer Trio → Answer Act
 acting op (accepted (trio l r)) =
     choose (sameLengths l (lengths (l .d) (l .d) (l .d))) (accepted (act op (registers (l .d) (r .d) (r .n) (r .m)))) (refused 10)
-acting op (refused x) = refused 10
+acting op (refused x) = refused x
 
 abbrev pub on : Operation → Operand → Operand → Operand → Answer Act
 on op a b c = acting op (gathered (vecBits a) (vecBits b) (vecBits c))
@@ -83,7 +84,7 @@ on op a b c = acting op (gathered (vecBits a) (vecBits b) (vecBits c))
 -- on registers of the operation's own lengths
 unfoldable pub doubling : DoubleOp → Width → Answer Trio → Answer Act
 doubling op w (accepted (trio l r)) = choose (sameLengths l (lengthsOf op)) (accepted (double op w r)) (refused 10)
-doubling op w (refused x) = refused 10
+doubling op w (refused x) = refused x
 
 abbrev pub onUnlike : DoubleOp → Width → Operand → Operand → Operand → Answer Act
 onUnlike op w a b c = doubling op w (gathered (vecBits a) (vecBits b) (vecBits c))

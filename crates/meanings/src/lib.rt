@@ -131,7 +131,7 @@ fn on_registers(op: Operation, a: Operand, b: Operand, c: Operand) -> Meaning
                 },
             )
         }
-        Gathered::Refused(f) => Meaning::Refused(Refusal::NoMeaning),
+        Gathered::Refused(f) => Meaning::Refused(f),
     }
 }
 
@@ -147,7 +147,7 @@ fn on_unlike(op: DoubleOp, w: Width, a: Operand, b: Operand, c: Operand) -> Mean
             }
             Meaning::Doubles(op, w, r)
         }
-        Gathered::Refused(f) => Meaning::Refused(Refusal::NoMeaning),
+        Gathered::Refused(f) => Meaning::Refused(f),
     }
 }
 

@@ -7,7 +7,7 @@ use Rattle.laws.specs.Answer.{accepted}
 use Rattle.insn.specs.declared.Insn.{Insn}
 use Rattle.machine.specs.File.{File, Good}
 use Rattle.meanings.specs.Meaning.{Act}
-use Rattle.meanings.proofs.Actions.{Constant64}
+use Rattle.meanings.proofs.Actions.{Sound}
 use Rattle.runs.specs.Run.{stepsBy, machineSteps}
 use Rattle.machine.specs.Step.{effect}
 use Rattle.machine.proofs.Steps.{effect-good}
@@ -24,7 +24,7 @@ abbrev pub Does : List Insn → List Act → Type 0
 Does [] [] = Unit {0}
 Does [] (x ∷ acts) = ⊥
 Does (i ∷ is) [] = ⊥
-Does (i ∷ is) (x ∷ acts) = Executes i x × (Constant64 x × Does is acts)
+Does (i ∷ is) (x ∷ acts) = Executes i x × (Sound x × Does is acts)
 
 pub does-append : (is js : List Insn) (xs ys : List Act) → Does is xs → Does js ys → Does (is ++ js) (xs ++ ys)
 does-append [] js [] ys p q = q

@@ -8,8 +8,9 @@ use borrow.Author.Needs.{needs}
 use Rattle.tables.specs.declared.lengths.Lengths.{Lengths}
 use Rattle.lanes.specs.Lane.{lanewise}
 use Rattle.lanes.proofs.Lanewise.{lanes-lt, turn, first, last, at-most, room, fill}
-use Rattle.double_lanes.specs.Double.{lengthsOf, laneBits, doubleLane, doubleLanes, halfOf}
-use Rattle.double_lanes.proofs.Doubles.{lane-lt, filled, twice}
+use Rattle.double_lanes.specs.Double.{lengthsOf, laneBits, doubleLane, doubleLanes}
+use Rattle.double_lanes.specs.Halves.{halfOf}
+use Rattle.double_lanes.proofs.Doubles.{lane-lt, bits-times, twice}
 use Rattle.double_lanes.proofs.half.Statement.{statement}
 use Rattle.double_lanes.proofs.half.Tie as tie
 
@@ -51,7 +52,7 @@ place-requires c κs =
     let l = mul-div-le 32 b in
     let below : (d n m : ℕ) → doubleLane (a .op) b d n m < 2 ^ wd = λ d n m. rw (e .0) (lane-lt (a .op) b d n m) in
     let r = lanes-lt (doubleLane (a .op) b) wd (k .before .lane-bits2 .result) (k .lane-bits3 .result) below (32 / b - i) _ _ _ in
-    let z : wd * (32 / b) ≤ 64 = rw (e .0, filled (lengthsOf (a .op) .d) b (32 / b)) (twice (lengthsOf (a .op) .d) l) in (
+    let z : wd * (32 / b) ≤ 64 = rw (e .0, bits-times (lengthsOf (a .op) .d) b (32 / b)) (twice (lengthsOf (a .op) .d) l) in (
       (f .0, at-most b (32 / b) i 32 (omega arith) (omega arith) l),
       e,
       rw (c .before .loop .inv .1) (room wd (32 / b) i 64 (omega arith) (omega arith) z _ r),

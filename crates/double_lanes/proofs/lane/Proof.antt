@@ -1,11 +1,11 @@
 -- `double_lanes::lane` meets its contract.
 -- Assumes nothing.
-use mathlib.Core.Path.{_∙_}
+use mathlib.Core.Path.{sym, _∙_}
 use Prim.Native.Nat.{_*_}
-use lib.IntN.{pos}
 use borrow.Author.Needs.{needs}
 use Rattle.arithmetic.specs.Whole.{readAs}
-use Rattle.arithmetic.proofs.Modulo.{itself, stands}
+use Rattle.arithmetic.proofs.Modulo.{congruent}
+use Rattle.arithmetic.proofs.Signs.{again}
 use Rattle.double_lanes.specs.Double.{exactDouble, doubleLane}
 use Rattle.double_lanes.proofs.Doubles.{long-like, wide-like}
 use Rattle.double_lanes.proofs.lane.Statement.{statement}
@@ -22,18 +22,21 @@ returns c =
     rw (o .1)
     (c .long-lane .ensures
     ∙ long-like (2 * a .w) x y (readAs s (a .w) (a .n)) (readAs s (a .w) (a .m))
-    (stands (2 * a .w) x _ (c .before .before .extend .ensures)) (stands (2 * a .w) y _ (c .before .extend2 .ensures)) (o .0 .0) (a .d))
+    (congruent (2 * a .w) x _ (c .before .before .extend .ensures)) (congruent (2 * a .w) y _ (c .before .extend2 .ensures)) (o .0 .0) (a .d))
 
 returns-2 : tie.Need-returns-2
 unfolding exactDouble doubleLane
 returns-2 c =
-    let a = c .before .before .before .before .before .args in
+    let b = c .before .before .before .before .before in
+    let a = b .args in
     let o = c .before .before .before .op2 .given in
+    let s = o .0 .1 .0 in
     let y = c .before .extend3 .result in
+    let h = rw (o .1) at (b .pre) in
     rw (o .1)
     (c .wide-lane .ensures
-    ∙ wide-like (2 * a .w) (a .n) y (pos (a .n)) (readAs (o .0 .1 .0) (a .w) (a .m))
-    (itself (2 * a .w) (a .n)) (stands (2 * a .w) y _ (c .before .extend3 .ensures)) (o .0 .0))
+    ∙ wide-like (2 * a .w) (a .n) y (readAs s (2 * a .w) (a .n)) (readAs s (a .w) (a .m))
+    (congruent (2 * a .w) (a .n) _ (sym (again s (2 * a .w) (a .n) (h .1 .0)))) (congruent (2 * a .w) y _ (c .before .extend3 .ensures)) (o .0 .0))
 
 returns-3 : tie.Need-returns-3
 unfolding exactDouble doubleLane

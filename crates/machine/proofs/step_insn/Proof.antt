@@ -25,7 +25,7 @@ returns-2 c =
     let o = c .before .before .meaning2 .given in
     let b = c .before .before .before .before in
     let e : meaningOf (b .before .args .i) ≡ accepted (double (o .0 .0) (o .0 .1 .0) (o .0 .1 .1 .0)) = sym (b .meaning-of .ensures) ∙ ap meaningAnswer (o .1) in
-    rw e (ap accepted (c .perform-double .ensures), c .perform-double .ensures)
+    rw e (ap accepted (c .perform-unlike .ensures), c .perform-unlike .ensures)
 
 returns-3 : tie.Need-returns-3
 unfolding stepBy
@@ -45,7 +45,8 @@ step-insn-spec =
     meant (b .before .args .i) _ (sym (b .meaning-of .ensures) ∙ ap meaningAnswer (c .before .meaning .given .1)) .within)
     (λ c. search needs)
     (λ c κs. let b = c .before .before .before in
-    meant (b .before .args .i) _ (sym (b .meaning-of .ensures) ∙ ap meaningAnswer (c .before .meaning2 .given .1)) .within)
+    let m = meant (b .before .args .i) _ (sym (b .meaning-of .ensures) ∙ ap meaningAnswer (c .before .meaning2 .given .1)) in
+    (m .within, m .sound))
     (λ c. search needs)
     returns
     returns-2
