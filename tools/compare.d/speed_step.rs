@@ -16,8 +16,6 @@ const CASES: &str = include_str!("../../crates/step_bench/stdin");
 const GATE: &str = include_str!("../../crates/step_bench/stdout");
 const GATE_TIMES: &str = include_str!("../../crates/step_bench/args");
 
-/// How many pairs, the first of them, have registers of one length.
-const ALIKE: usize = 80;
 /// How often the list of pairs is stepped in one measurement.
 const TIMES: usize = 5_000;
 
@@ -26,7 +24,8 @@ type Pairs = [[u16; 2]];
 fn main() -> ExitCode {
     let program = std::env::args().nth(1).expect("the program that steps pairs");
     let (list, start) = cases();
-    let (alike, unlike) = list.split_at(ALIKE);
+    let (alike, unlike) = list.split_at(list.iter().position(differ).unwrap_or(list.len()));
+    assert!(unlike.iter().all(differ), "the pairs with registers of one length come first");
     let mut report = Report::default();
     let gate = GATE_TIMES.trim().parse().expect("the rounds of the gate");
     report.expect(GATE.to_owned(), interpreted(&list, start, gate), || "the gate's line".to_owned());
@@ -70,6 +69,13 @@ fn cases() -> (Vec<[u16; 2]>, [u64; 32]) {
     (list.collect(), start)
 }
 
+/// Whether a pair has registers of different lengths.
+fn differ(&[hw1, hw2]: &[u16; 2]) -> bool {
+    let operands = decode(hw1, hw2, 0).expect("a pair that is read").operands;
+    let lengths: Vec<_> = operands.as_slice().filter_map(doublewords).map(|r| r.1).collect();
+    lengths.windows(2).any(|two| two[0] != two[1])
+}
+
 /// The line that our program writes.
 fn stepped(program: &str, list: &Pairs, start: [u64; 32], times: usize) -> String {
     let registers: String = start.iter().map(|x| format!("{x:016x}\n")).collect();
@@ -99,23 +105,24 @@ fn interpreted(list: &Pairs, start: [u64; 32], times: usize) -> String {
 fn step(file: &mut [u64; 32], hw1: u16, hw2: u16) -> Option<()> {
     let insn = decode(hw1, hw2, 0)?;
     let (stem, kind) = insn.mnemonic.split_once('.').unwrap_or((insn.mnemonic, ""));
+    let lane = lane(kind);
     let mut operands = insn.operands.as_slice();
     let (target, second, third) = (operands.next()?, operands.next()?, operands.next());
     let (d, count) = doublewords(target)?;
     let (n, m) = (doublewords(second), third.and_then(doublewords));
     if n.is_some_and(|n| n.1 != count) || m.is_some_and(|m| m.1 != count) {
-        return unlike(file, (stem, kind), (d, count), n?, third);
+        return unlike(file, stem, lane?, (d, count), n?, third);
     }
     for half in 0..count {
         let source = |(at, _)| file[at + half];
         let old = file[d + half];
         file[d + half] = match (second, third) {
-            (Operand::Imm(v), None) => constant(stem, repeated(width(kind), v as u64), old)?,
+            (Operand::Imm(v), None) => constant(stem, repeated(lane?.width, v as u64), old)?,
             (Operand::FpImm(v), None) => repeated(32, (v as f32).to_bits().into()),
             (_, None) => source(n?),
-            (_, Some(Operand::Imm(k))) => shifted(stem, kind, source(n?), k as u32)?,
+            (_, Some(Operand::Imm(k))) => shifted(stem, lane?, source(n?), k as u32)?,
             (_, Some(_)) if kind.is_empty() => bitwise(stem, old, source(n?), source(m?))?,
-            (_, Some(_)) => lanes(stem, kind, old, source(n?), source(m?))?,
+            (_, Some(_)) => lanes(stem, lane?, old, source(n?), source(m?))?,
         };
     }
     Some(())
@@ -132,13 +139,23 @@ fn doublewords(operand: Operand) -> Option<Register> {
     }
 }
 
-fn width(kind: &str) -> u32 {
-    match kind.trim_start_matches(['i', 's', 'u']) {
+/// The width of lanes, and whether they have a sign.
+#[derive(Clone, Copy)]
+struct Lane {
+    width: u32,
+    signed: bool,
+}
+
+/// The lanes of a kind; none for polynomials and floats.
+fn lane(kind: &str) -> Option<Lane> {
+    let width = match kind.trim_start_matches(['i', 's', 'u']) {
         "8" => 8,
         "16" => 16,
         "32" => 32,
-        _ => 64,
-    }
+        "64" => 64,
+        _ => return None,
+    };
+    Some(Lane { width, signed: kind.starts_with('s') })
 }
 
 /// The lowest bits of a number in every lane.
@@ -184,9 +201,9 @@ fn whole(w: u32, signed: bool, x: u64) -> i64 {
     if signed { (x << (64 - w)) as i64 >> (64 - w) } else { x as i64 }
 }
 
-fn shifted(stem: &str, kind: &str, n: u64, k: u32) -> Option<u64> {
-    let w = width(kind);
-    Some(match (stem, kind.starts_with('s')) {
+fn shifted(stem: &str, lane: Lane, n: u64, k: u32) -> Option<u64> {
+    let w = lane.width;
+    Some(match (stem, lane.signed) {
         ("vshl", _) => each(w, 0, n, 0, |_, n, _| n << k),
         ("vshr", true) => each(w, 0, n, 0, |_, n, _| (whole(w, true, n) >> k.min(63)) as u64),
         ("vshr", false) => each(w, 0, n, 0, |_, n, _| n.checked_shr(k).unwrap_or(0)),
@@ -194,9 +211,9 @@ fn shifted(stem: &str, kind: &str, n: u64, k: u32) -> Option<u64> {
     })
 }
 
-fn lanes(stem: &str, kind: &str, d: u64, n: u64, m: u64) -> Option<u64> {
-    let w = width(kind);
-    let whole = |x| whole(w, kind.starts_with('s'), x);
+fn lanes(stem: &str, lane: Lane, d: u64, n: u64, m: u64) -> Option<u64> {
+    let w = lane.width;
+    let whole = |x| whole(w, lane.signed, x);
     let ones = |holds: bool| if holds { u64::MAX } else { 0 };
     Some(match stem {
         "vadd" => each(w, d, n, m, |_, n, m| n.wrapping_add(m)),
@@ -214,58 +231,59 @@ fn lanes(stem: &str, kind: &str, d: u64, n: u64, m: u64) -> Option<u64> {
     })
 }
 
-/// One pair with registers of different lengths. A half of it takes a doubleword of a quadword, and
-/// half of a doubleword; both halves are worked out before the target is written.
+/// One pair with registers of different lengths, worked out whole before the target is written.
 fn unlike(
     file: &mut [u64; 32],
-    name: (&str, &str),
+    stem: &str,
+    lane: Lane,
     target: Register,
     second: Register,
     third: Option<Operand>,
 ) -> Option<()> {
-    let half = |i: usize| {
-        let source = |(at, count)| if count == 2 { file[at + i] } else { file[at] >> (32 * i) };
-        let m = match third {
-            None => 0,
-            Some(Operand::Imm(k)) => k as u64,
-            Some(m) => source(doublewords(m)?),
-        };
-        mixed(name, source(target), source(second), m)
+    let halves = |(at, count)| [file[at], if count == 2 { file[at + 1] } else { file[at] >> 32 }];
+    let m = match third {
+        None => [0; 2],
+        Some(Operand::Imm(k)) => [k as u64; 2],
+        Some(m) => halves(doublewords(m)?),
     };
-    let (low, high) = (half(0)?, half(1)?);
+    let width = if target.1 == 2 { lane.width } else { lane.width / 2 };
+    let result = mixed(stem, Lane { width, ..lane }, halves(target), halves(second), m)?;
     match target {
-        (d, 2) => file[d..d + 2].copy_from_slice(&[low, high]),
-        (d, _) => file[d] = low | high << 32,
+        (d, 2) => file[d..d + 2].copy_from_slice(&result),
+        (d, _) => file[d] = result[0] | result[1] << 32,
     }
     Some(())
 }
 
-/// Half of what a name makes of short lanes, of w bits, and long ones; m may be an amount.
-fn mixed((stem, kind): (&str, &str), d: u64, n: u64, m: u64) -> Option<u64> {
-    let w = if kind.starts_with('i') { width(kind) / 2 } else { width(kind) };
+/// A register's halves, each from bit 0 on; of a doubleword's only the lowest 32 bits are read.
+type Halves = [u64; 2];
+
+/// What a name makes of short lanes, of w bits, and long ones; m may be an amount.
+fn mixed(stem: &str, lane: Lane, d: Halves, n: Halves, m: Halves) -> Option<Halves> {
+    let w = lane.width;
     let mask = u64::MAX >> (64 - w);
-    let short = |x: u64, i: u32| whole(w, kind.starts_with('s'), x >> (w * i) & mask) as u64;
+    let short = |x: u64, i: u32| whole(w, lane.signed, x >> (w * i) & mask) as u64;
     let long = |x: u64, i: u32| x >> (2 * w * i);
-    let product = |i| short(n, i).wrapping_mul(short(m, i));
+    let product = |h: usize, i| short(n[h], i).wrapping_mul(short(m[h], i));
     Some(match stem {
-        "vaddl" => packed(w, 2 * w, |i| short(n, i).wrapping_add(short(m, i))),
-        "vsubl" => packed(w, 2 * w, |i| short(n, i).wrapping_sub(short(m, i))),
+        "vaddl" => packed(w, 2 * w, |h, i| short(n[h], i).wrapping_add(short(m[h], i))),
+        "vsubl" => packed(w, 2 * w, |h, i| short(n[h], i).wrapping_sub(short(m[h], i))),
         "vmull" => packed(w, 2 * w, product),
-        "vmlal" => packed(w, 2 * w, |i| long(d, i).wrapping_add(product(i))),
-        "vmlsl" => packed(w, 2 * w, |i| long(d, i).wrapping_sub(product(i))),
-        "vaddw" => packed(w, 2 * w, |i| long(n, i).wrapping_add(short(m, i))),
-        "vsubw" => packed(w, 2 * w, |i| long(n, i).wrapping_sub(short(m, i))),
-        "vmovl" => packed(w, 2 * w, |i| short(n, i)),
-        "vshll" => packed(w, 2 * w, |i| short(n, i) << m),
-        "vaddhn" => packed(w, w, |i| long(n, i).wrapping_add(long(m, i)) >> w),
-        "vsubhn" => packed(w, w, |i| long(n, i).wrapping_sub(long(m, i)) >> w),
-        "vshrn" => packed(w, w, |i| long(n, i) >> m),
+        "vmlal" => packed(w, 2 * w, |h, i| long(d[h], i).wrapping_add(product(h, i))),
+        "vmlsl" => packed(w, 2 * w, |h, i| long(d[h], i).wrapping_sub(product(h, i))),
+        "vaddw" => packed(w, 2 * w, |h, i| long(n[h], i).wrapping_add(short(m[h], i))),
+        "vsubw" => packed(w, 2 * w, |h, i| long(n[h], i).wrapping_sub(short(m[h], i))),
+        "vmovl" => packed(w, 2 * w, |h, i| short(n[h], i)),
+        "vshll" => packed(w, 2 * w, |h, i| short(n[h], i) << m[h]),
+        "vaddhn" => packed(w, w, |h, i| long(n[h], i).wrapping_add(long(m[h], i)) >> w),
+        "vsubhn" => packed(w, w, |h, i| long(n[h], i).wrapping_sub(long(m[h], i)) >> w),
+        "vshrn" => packed(w, w, |h, i| long(n[h], i) >> m[h]),
         _ => return None,
     })
 }
 
 /// The lowest bits, as many as a lane of the result has, of each number; 32 / w of them are a half.
-fn packed(w: u32, bits: u32, f: impl Fn(u32) -> u64) -> u64 {
+fn packed(w: u32, bits: u32, f: impl Fn(usize, u32) -> u64) -> Halves {
     let mask = u64::MAX >> (64 - bits);
-    (0..32 / w).fold(0, |all, i| all | (f(i) & mask) << (bits * i))
+    [0, 1].map(|half| (0..32 / w).fold(0, |all, i| all | (f(half, i) & mask) << (bits * i)))
 }

@@ -89,11 +89,15 @@ fn record(mnemonic: u16, shape: u8, v: u64, quad: bool) -> Insn {
     }
 }
 
-// What a letter puts in place k: a quadword, a doubleword, the number, the registers past the last, or nothing.
+// What a letter puts in place k: a quadword, a doubleword, Q0 or a half of it, the number, the registers past the last, or
+// nothing.
 fn operand(c: u8, k: u8, v: u64) -> Operand {
     match c {
         b'q' => register(true, k),
         b'd' => register(false, k),
+        b't' => Operand::Q(0),
+        b'l' => Operand::D(0),
+        b'h' => Operand::D(1),
         b'#' => Operand::Imm(insn::signed::signed_of(v)),
         b'X' => Operand::Q(16),
         b'x' => Operand::D(32),
