@@ -2,13 +2,18 @@
 -- Assumes nothing.
 use mathlib.Core.Path.{_≡_, refl, sym, ap, _∙_}
 use mathlib.Core.Bool.{Bool, true, false}
-use Prim.Native.Nat.{ℕ, _<_}
+use mathlib.Core.List.{List, [], _∷_, map}
+use Prim.Native.Nat.{ℕ, zero, suc, _<_}
 use Prim.Native.String.{String}
 use lib.Dec.{ltb, leb}
+use lib.ListN.{length}
+use lib.Text.{eqt}
 use borrow.Author.Tests.{ltb-true, ltb-false}
 use Rattle.laws.proofs.Range.{values, agree}
+use Rattle.laws.specs.Choice.{choose, both}
 use Rattle.laws.proofs.Never.{wrong}
-use Rattle.names.specs.Names.{names, nameOf}
+use Rattle.laws.proofs.Tests.{both-true}
+use Rattle.names.specs.Names.{member, nameOf}
 use Rattle.names.proofs.Spellings.{no-name}
 use Rattle.insn.specs.declared.Width.{Width}
 use Rattle.insn.specs.Widths.{bitsOf}
@@ -16,29 +21,52 @@ use Rattle.forms.specs.declared.Direction.{Direction}
 use Rattle.forms.specs.declared.Direction.the-variants as way
 use Rattle.forms.specs.declared.Form.{Form}
 use Rattle.forms.specs.declared.Form.the-variants.{Lanes, Bits, Copy, Shift, Double, Extend, Number, Float, Nothing}
-use Rattle.forms.specs.Forms.{groups, namedForms, formOf}
+use Rattle.forms.specs.Forms.{NamedForm, groups, namedForms, formIn, formOf}
 use Rattle.forms.specs.Promises as promises
-use Rattle.forms.specs.Promises.{hasForm, ListedForm, ListedCounted}
+use Rattle.forms.specs.Promises.{countBelow, hasForm, ListedForm, ListedCounted}
 use Rattle.forms.proofs.Numbered.{numbered, formAt, form-at, blank}
 
-pub listedCounted : ListedCounted
-unfolding names nameOf groups namedForms
-listedCounted = (refl, refl)
+-- every form in the list is one
+allFormed : List NamedForm → Bool
+allFormed [] = true
+allFormed (x ∷ xs) = both (hasForm (x .form)) (allFormed xs)
 
-below : (m : ℕ) → m < 346 → hasForm (formAt m) ≡ promises.listed m
-unfolding values names nameOf groups namedForms numbered formAt
-below = agree (λ (m : ℕ). hasForm (formAt m)) promises.listed 346 refl
+all-formed : allFormed namedForms ≡ true
+unfolding groups namedForms allFormed
+all-formed = refl
 
-past : (m : ℕ) → nameOf m ≡ "" → promises.listed m ≡ false
-unfolding groups namedForms
-past m e = rw e
+-- so that a name has one exactly if it stands there
+formed-in : (s : String) (xs : List NamedForm) → allFormed xs ≡ true → hasForm (formIn s xs) ≡ member s (map (λ (x : NamedForm). x .name) xs)
+unfolding allFormed
+formed-in s [] h = refl
+formed-in s (x ∷ xs) h =
+    let k = both-true (hasForm (x .form)) (allFormed xs) h in
+    either (eqt (x .name) s) (x .form) (formIn s xs) (member s (map (λ (x : NamedForm). x .name) xs)) (k .0) (formed-in s xs (k .1))
+  where
+    either : (b : Bool) (f g : Form) (t : Bool) → hasForm f ≡ true → hasForm g ≡ t → hasForm (choose b f g) ≡ choose b true t
+    either true f g t p q = p
+    either false f g t p q = q
 
 pub listedForm : ListedForm
-listedForm m = go (ltb m 346) refl
-  where
-    go : (b : Bool) → ltb m 346 ≡ b → hasForm (formOf (nameOf m)) ≡ promises.listed m
-    go true e = ap hasForm (form-at m) ∙ below m (ltb-true m 346 e)
-    go false e = let n = no-name m (ltb-false m 346 e) in ap (λ (s : String). hasForm (formOf s)) n ∙ ap hasForm blank ∙ sym (past m n)
+unfolding formOf
+listedForm m = formed-in (nameOf m) namedForms all-formed
+
+-- numbers that are told apart alike are counted alike
+count-same : (p q : ℕ → Bool) → ((k : ℕ) → p k ≡ q k) → (n : ℕ) → countBelow p n ≡ countBelow q n
+count-same p q h zero = refl
+count-same p q h (suc n) = rw (h n, count-same p q h n)
+
+counted : countBelow (λ (m : ℕ). hasForm (formAt m)) 346 ≡ 142
+unfolding numbered formAt
+counted = refl
+
+names-counted : length namedForms ≡ 142
+unfolding groups namedForms
+names-counted = refl
+
+pub listedCounted : ListedCounted
+listedCounted =
+    (names-counted, count-same promises.listed (λ (m : ℕ). hasForm (formAt m)) (λ m. sym (listedForm m) ∙ ap hasForm (form-at m)) 346 ∙ counted)
 
 -- a name that is not listed has none
 pub no-form : (m : ℕ) → promises.listed m ≡ false → formOf (nameOf m) ≡ Nothing

@@ -181,45 +181,31 @@ found3 a b c (accepted (bits p d)) (accepted (bits q n)) (refused k) l r ea eb e
 found3 a b c (accepted (bits p d)) (refused k) z l r ea eb ec e = never (cc)
 found3 a b c (refused k) y z l r ea eb ec e = never (cc)
 
--- an operation on registers that were read, of one length or of its own
+-- an act on registers that were read, of the lengths that it takes
 module _ (a b c : Operand) (x : Act) where
-  found : (l : Lengths) (r : Numbers) → gathered (vecBits a) (vecBits b) (vecBits c) ≡ accepted (trio l r) → Found3 a l r
-  found l r e = found3 a b c (vecBits a) (vecBits b) (vecBits c) l r refl refl refl e
+  fits : (y : Act) (l : Lengths) → gathered (vecBits a) (vecBits b) (vecBits c) ≡ accepted (trio l (numbersIn y)) → Sound y
+      → (t : Bool) → sameLengths l (lengthsIn y) ≡ t → choose t (accepted y) (refused 10) ≡ accepted x → Fits a x
+  fits y l eg s true h e =
+      let r = numbersIn y in
+      let k : y ≡ x = cc in
+      let is = found3 a b c (vecBits a) (vecBits b) (vecBits c) l r refl refl refl eg in
+      let same = same-lengths l (lengthsIn y) h in
+      subst (Fits a) k
+      (record {
+        within = subst (λ (j : Lengths). Within j (r .d) (r .n) (r .m)) same (is .inside);
+        sound = s;
+        target = is .first ∙ ap (λ (j : Lengths). accepted (bits (j .d) (r .d))) same;
+      })
+  fits y l eg s false h e = never (cc)
 
   acted : (op : Operation) → Sized op → (g : Answer Trio) → gathered (vecBits a) (vecBits b) (vecBits c) ≡ g → acting op g ≡ accepted x → Fits a x
   unfolding acting
-  acted op s (accepted (trio l r)) eg e = go (sameLengths l (lengths (l .d) (l .d) (l .d))) refl e
-    where
-      go : (t : Bool) → sameLengths l (lengths (l .d) (l .d) (l .d)) ≡ t
-          → choose t (accepted (act op (registers (l .d) (r .d) (r .n) (r .m)))) (refused 10) ≡ accepted x → Fits a x
-      go true h f =
-          let k : act op (registers (l .d) (r .d) (r .n) (r .m)) ≡ x = cc in
-          let is = found l r eg in
-          subst (Fits a) k
-          (record {
-            within = subst (λ (j : Lengths). Within j (r .d) (r .n) (r .m)) (same-lengths l (lengths (l .d) (l .d) (l .d)) h) (is .inside);
-            sound = s;
-            target = is .first;
-          })
-      go false h f = never (cc)
+  acted op s (accepted (trio l r)) eg e = fits (act op (registers (l .d) (r .d) (r .n) (r .m))) l eg s _ refl e
   acted op s (refused n) eg e = never (cc)
 
-  doubled : (op : DoubleOp) (w : Width) → leb (bitsOf w) 32 ≡ true → (g : Answer Trio) → gathered (vecBits a) (vecBits b) (vecBits c) ≡ g → doubling op w g ≡ accepted x → Fits a x
+  doubled : (op : DoubleOp) (w : Width) → bitsOf w ≤ 32 → (g : Answer Trio) → gathered (vecBits a) (vecBits b) (vecBits c) ≡ g → doubling op w g ≡ accepted x → Fits a x
   unfolding doubling
-  doubled op w s (accepted (trio l r)) eg e = go (sameLengths l (lengthsOf op)) refl e
-    where
-      go : (t : Bool) → sameLengths l (lengthsOf op) ≡ t → choose t (accepted (double op w r)) (refused 10) ≡ accepted x → Fits a x
-      go true h f =
-          let k : double op w r ≡ x = cc in
-          let is = found l r eg in
-          let same = same-lengths l (lengthsOf op) h in
-          subst (Fits a) k
-          (record {
-            within = subst (λ (j : Lengths). Within j (r .d) (r .n) (r .m)) same (is .inside);
-            sound = leb-true (bitsOf w) 32 s;
-            target = is .first ∙ ap (λ (j : Lengths). accepted (bits (j .d) (r .d))) same;
-          })
-      go false h f = never (cc)
+  doubled op w s (accepted (trio l r)) eg e = fits (double op w r) l eg s _ refl e
   doubled op w s (refused n) eg e = never (cc)
 
 pub meant : (i : Insn) (x : Act) → meaningOf i ≡ accepted x → Fits (i .first) x
@@ -227,7 +213,7 @@ meant i =
     any-meaning (λ (g : Answer Act). (x : Act) → g ≡ accepted x → Fits (i .first) x)
     (λ n x e. never (cc)) i
     (λ op b c s x e. acted (i .first) b c x op s (gathered (vecBits (i .first)) (vecBits b) (vecBits c)) refl e)
-    (λ op w b c s x e. doubled (i .first) b c x op w s (gathered (vecBits (i .first)) (vecBits b) (vecBits c)) refl e)
+    (λ op w b c s x e. doubled (i .first) b c x op w (leb-true (bitsOf w) 32 s) (gathered (vecBits (i .first)) (vecBits b) (vecBits c)) refl e)
 
 -- an operation on registers of one length
 one-length : (quad : Bool) → sameLengths (lengths quad quad quad) (lengths quad quad quad) ≡ true
