@@ -1,9 +1,9 @@
--- `machine_test::begins` is safe and ends.
+-- `vectors::begins` is safe and ends.
 -- Assumes nothing.
 use Prim.Native.Nat.{_≤_, _-_}
 use borrow.Author.Needs.{needs}
-use Rattle.machine_test.proofs.begins.Statement.{statement}
-use Rattle.machine_test.proofs.begins.Tie as tie
+use Rattle.vectors.proofs.begins.Statement.{statement}
+use Rattle.vectors.proofs.begins.Tie as tie
 
 abbrev Inv-loop : tie.InvT-loop
 Inv-loop line names mnemonic j₀ j = j ≤ 12

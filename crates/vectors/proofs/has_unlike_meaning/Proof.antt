@@ -1,9 +1,9 @@
--- `machine_test::has_unlike_meaning` is safe and ends.
+-- `vectors::has_unlike_meaning` is safe and ends.
 -- Assumes nothing.
 use Prim.Native.Nat.{_≤_, _-_}
 use borrow.Author.Needs.{needs}
-use Rattle.machine_test.proofs.has_unlike_meaning.Statement.{statement}
-use Rattle.machine_test.proofs.has_unlike_meaning.Tie as tie
+use Rattle.vectors.proofs.has_unlike_meaning.Statement.{statement}
+use Rattle.vectors.proofs.has_unlike_meaning.Tie as tie
 
 abbrev Inv-loop : tie.InvT-loop
 Inv-loop mnemonic file k₀ t5 k = k ≤ 6

@@ -1,9 +1,9 @@
--- `machine_test::count_meanings` is safe and ends.
+-- `vectors::count_meanings` is safe and ends.
 -- Assumes nothing.
 use Prim.Native.Nat.{_≤_, _-_}
 use borrow.Author.Needs.{needs}
-use Rattle.machine_test.proofs.count_meanings.Statement.{statement}
-use Rattle.machine_test.proofs.count_meanings.Tie as tie
+use Rattle.vectors.proofs.count_meanings.Statement.{statement}
+use Rattle.vectors.proofs.count_meanings.Tie as tie
 
 abbrev Inv-loop : tie.InvT-loop
 Inv-loop sum₀ m₀ sum m = m ≤ 400

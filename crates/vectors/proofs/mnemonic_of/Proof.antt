@@ -1,9 +1,9 @@
--- `machine_test::mnemonic_of` is safe and ends.
+-- `vectors::mnemonic_of` is safe and ends.
 -- Assumes nothing.
 use Prim.Native.Nat.{_≤_, _-_}
 use borrow.Author.Needs.{needs}
-use Rattle.machine_test.proofs.mnemonic_of.Statement.{statement}
-use Rattle.machine_test.proofs.mnemonic_of.Tie as tie
+use Rattle.vectors.proofs.mnemonic_of.Statement.{statement}
+use Rattle.vectors.proofs.mnemonic_of.Tie as tie
 
 abbrev Inv-loop : tie.InvT-loop
 Inv-loop line names m₀ m = m ≤ 346
