@@ -3,25 +3,27 @@
 use mathlib.Core.Path.{_≡_, refl, sym, _∙_, ap}
 use mathlib.Core.Bool.{Bool, true, false}
 use Prim.Native.Nat.{ℕ, suc, _+_, _-_, _*_, _/_, _%_, _^_, _<_, _≤_}
-use native.Mathlib.Nat.{mod-lt, add-mul, mul-assoc, mul-left-comm, mul-suc, mul-div-cancel-left, lt-of-lt-of-le}
+use native.Mathlib.Nat.{mod-lt, add-mul, mul-assoc, mul-one, mul-suc, lt-of-lt-of-le}
 use native.Mathlib.Omega.{arith}
 use lib.IntN.{ℤ, pos, negsuc, _*ℤ_}
 use lib.Signed.{shrZ}
-use lib.Dec.{ltb}
-use lib.Pow.{pow-pos, pow-mono, pow-add, field, mod-pow-add, ones-split, ones-sub-lt, high}
-use borrow.Author.Tests.{ltb-true, ltb-false}
+use lib.Pow.{pow-pos, pow-mono, field, mod-pow-add, ones-split, ones-sub-lt, high}
 use Rattle.laws.specs.Signed.{modulo}
 use Rattle.laws.proofs.Signed.{modulo-lt, modulo-pos}
 use Rattle.insn.specs.declared.Width.{Width}
-use Rattle.insn.specs.Widths.{bitsAt, sizeOf, bitsOf}
+use Rattle.insn.specs.declared.Sign.{Sign}
+use Rattle.insn.specs.Widths.{sizeOf, bitsOf}
+use Rattle.insn.proofs.Sizes.{small, lanes}
 use Rattle.lanes.specs.Promises.{laneAt}
-use Rattle.lanes.proofs.Lanewise.{split, lanes-lt}
+use Rattle.lanes.proofs.Lanewise.{halves, lanes-lt, same}
+use Rattle.arithmetic.specs.Whole.{readAs}
 use Rattle.arithmetic.proofs.Modulo.{Congruent, plus, minus, times}
 use Rattle.double_lanes.specs.declared.LongOp.{LongOp}
 use Rattle.double_lanes.specs.declared.LongOp.the-variants as long
 use Rattle.double_lanes.specs.declared.WideOp.{WideOp}
 use Rattle.double_lanes.specs.declared.WideOp.the-variants as wide
 use Rattle.double_lanes.specs.declared.DoubleOp.{DoubleOp}
+use Rattle.double_lanes.specs.declared.DoubleOp.the-variants.{Long}
 use Rattle.double_lanes.specs.Double.{lengthsOf, laneBits, exactLong, exactWide, exactDouble, doubleLane, doubleLanes, doubleOf}
 use Rattle.double_lanes.specs.Halves.{halfOf}
 
@@ -80,48 +82,34 @@ lanes-below op w k s d n m l =
     lt-of-lt-of-le (lanes-lt (doubleLane op w) (laneBits (q .d) w) (laneBits (q .n) w) (laneBits (q .m) w) (lane-lt op w) k d n m)
     (pow-mono (rw (bits-times (q .d) w k) (bits-mono (q .d) l)))
 
--- lanes of at most 32 bits, which are 8 × 2^size, fill 32 bits and twice as many 64
-size-small : (w : Width) → bitsOf w ≤ 32 → sizeOf w ≤ 2
-size-small w h = go (ltb (sizeOf w) 3) refl
-  where
-    go : (b : Bool) → ltb (sizeOf w) 3 ≡ b → sizeOf w ≤ 2
-    go true e = omega (arith, ltb-true (sizeOf w) 3 e)
-    go false e = absurd (let p : 2 ^ 3 ≤ 2 ^ sizeOf w = pow-mono (ltb-false (sizeOf w) 3 e) in let z : ⊥ = omega arith in z)
-
-fills : (s : ℕ) → s ≤ 2 → (32 / bitsAt s ≡ 2 ^ (2 - s)) × (64 / bitsAt s ≡ 2 * 2 ^ (2 - s)) × (bitsAt s * 2 ^ (2 - s) ≡ 32)
-fills s h =
-    let k = 2 ^ (2 - s) in
-    let e : s + (2 - s) ≡ 2 = omega arith in
-    let f : 2 ^ s * 2 ^ (2 - s) ≡ 4 = sym (pow-add 2 s (2 - s)) ∙ ap (λ (n : ℕ). 2 ^ n) e in
-    let g : bitsAt s * 2 ^ (2 - s) ≡ 32 = mul-assoc 8 (2 ^ s) k ∙ ap (λ (n : ℕ). 8 * n) f in
-    let z : 0 < bitsAt s = omega (arith, pow-pos s) in
-    let t : bitsAt s * (2 * 2 ^ (2 - s)) ≡ 64 = mul-left-comm (bitsAt s) 2 k ∙ ap (λ (n : ℕ). 2 * n) g in
-    (ap (λ (n : ℕ). n / bitsAt s) (sym g) ∙ mul-div-cancel-left k z, ap (λ (n : ℕ). n / bitsAt s) (sym t) ∙ mul-div-cancel-left (2 * k) z, g)
-
--- k lanes below k lanes, where k lanes of w bits fill 32
-two-halves : (op : DoubleOp) (w k : ℕ) → w * k ≡ 32 → (a b c d e g : ℕ)
-    → a < 2 ^ laneBits (lengthsOf op .d) 32 → c < 2 ^ laneBits (lengthsOf op .n) 32 → e < 2 ^ laneBits (lengthsOf op .m) 32
-    → let q = lengthsOf op in
-    doubleLanes op w (2 * k) (a + 2 ^ laneBits (q .d) 32 * b) (c + 2 ^ laneBits (q .n) 32 * d) (e + 2 ^ laneBits (q .m) 32 * g)
-    ≡ doubleLanes op w k a c e + 2 ^ laneBits (q .d) 32 * doubleLanes op w k b d g
-unfolding doubleLanes
-two-halves op w k h a b c d e g ha hc he =
-    let q = lengthsOf op in
-    let two : 2 * k ≡ k + k = omega arith in
-    let f : (q : Bool) → laneBits q 32 ≡ laneBits q w * k = λ q. ap (laneBits q) (sym h) ∙ sym (bits-times q w k) in
-    rw (two, f (q .d), f (q .n), f (q .m))
-    (split (doubleLane op w) (laneBits (q .d) w) (laneBits (q .n) w) (laneBits (q .m) w) k k a b c d e g
-    (rw (f (q .d)) at ha) (rw (f (q .n)) at hc) (rw (f (q .m)) at he))
-
+-- on whole registers it is the operation on their halves, each k lanes, where k lanes of w bits fill 32
 pub whole-halves : (op : DoubleOp) (w : Width) (a b c d e g : ℕ) → bitsOf w ≤ 32
     → a < 2 ^ laneBits (lengthsOf op .d) 32 → c < 2 ^ laneBits (lengthsOf op .n) 32 → e < 2 ^ laneBits (lengthsOf op .m) 32
     → let q = lengthsOf op in
     doubleOf op w (a + 2 ^ laneBits (q .d) 32 * b) (c + 2 ^ laneBits (q .n) 32 * d) (e + 2 ^ laneBits (q .m) 32 * g)
     ≡ halfOf op w a c e + 2 ^ laneBits (q .d) 32 * halfOf op w b d g
-unfolding doubleOf halfOf
-whole-halves op w a b c d e g narrow ha hc he =
-    let f = fills (sizeOf w) (size-small w narrow) in
-    rw (f .0, f .1) (two-halves op (bitsOf w) (2 ^ (2 - sizeOf w)) (f .2) a b c d e g ha hc he)
+unfolding doubleLanes doubleOf halfOf
+whole-halves op w a b c d e g short =
+    let l = lanes (sizeOf w) 2 (small (sizeOf w) 2 short) in
+    let v = bitsOf w in
+    let k = 2 ^ (2 - sizeOf w) in
+    let q = lengthsOf op in
+    let f : (q : Bool) → laneBits q (bitsOf w) * 2 ^ (2 - sizeOf w) ≡ laneBits q 32 = λ q. bits-times q v k ∙ ap (laneBits q) (l .fill) in
+    rw (l .doubled, l .counted)
+    (halves (doubleLane op v) (laneBits (q .d) v) (laneBits (q .n) v) (laneBits (q .m) v) k (laneBits (q .d) 32) (laneBits (q .n) 32) (laneBits (q .m) 32)
+    a b c d e g (f (q .d)) (f (q .n)) (f (q .m)))
+
+-- a shift by 0 is a move
+once : (z : ℤ) → z *ℤ pos 1 ≡ z
+once (pos n) = rw mul-one
+once (negsuc n) = rw mul-one
+
+pub shift-none : (s : Sign) (w : Width) (d n m : ℕ) → doubleOf (Long (long.Shl 0) s) w d n m ≡ doubleOf (Long long.Mov s) w d n m
+unfolding exactDouble doubleLane doubleLanes doubleOf
+shift-none s w d n m =
+    let v = bitsOf w in
+    same (doubleLane (Long (long.Shl 0) s) v) (doubleLane (Long long.Mov s) v) (2 * v) v v (64 / v) d n m d n m
+    (λ i l. ap (modulo (2 * v)) (once (readAs s v (laneAt v i n))))
 
 -- from bit w on, the low w bits are the high half of 2w bits
 pub high-half : (w : ℕ) (z : ℤ) → modulo w (shrZ z (2 ^ w)) ≡ modulo (2 * w) z / 2 ^ w

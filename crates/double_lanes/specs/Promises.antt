@@ -63,7 +63,7 @@ WorkedDoubles =
     × (doubleLane (Long long.Mov Unsigned) 8 0 128 0 ≡ 0x0080)
     × (doubleLane (Long (long.Shl 7) Signed) 8 0 129 0 ≡ 0xc080)
     × (doubleLane (Wide wide.Add Signed) 8 0 0 255 ≡ 0xffff)
-    × (doubleLane (Wide wide.Sub Signed) 8 0 0xffff 255 ≡ 0)
+    × (doubleLane (Wide wide.Sub Signed) 8 0 5 255 ≡ 6)
     × (doubleLane (Narrow (narrow.Shr 4)) 8 0 0x1234 0 ≡ 0x23)
     × (doubleLane (Narrow (narrow.Shr 8)) 8 0 0xff34 0 ≡ 0xff)
     × (doubleLane (Narrow narrow.Add) 8 0 0xff00 0x01ff ≡ 0)

@@ -78,30 +78,30 @@ fn lane_bits(quad: bool, w: u32) -> u32
     if quad { 2 * w } else { w }
 }
 
-// A lane of w bits, from numbers that are the sources modulo 2^w.
-fn long_lane(op: LongOp, w: u32, d: u64, x: u64, y: u64) -> u64
-    requires { ⌜ (0 < w) × (w ≤ 64) ⌝ }
-    ensures { λ r. ⌜ r ≡ modulo w (exactLong op (pos d) (pos x) (pos y)) ⌝ }
+// A long lane, of v bits, from numbers that are the sources modulo 2^v.
+fn long_lane(op: LongOp, v: u32, d: u64, x: u64, y: u64) -> u64
+    requires { ⌜ (0 < v) × (v ≤ 64) ⌝ }
+    ensures { λ r. ⌜ r ≡ modulo v (exactLong op (pos d) (pos x) (pos y)) ⌝ }
 {
     match op {
-        LongOp::Add => sum(w, x, y),
-        LongOp::Sub => difference(w, x, y),
-        LongOp::Mul => cut(w, product(x, y)),
-        LongOp::Mla => sum(w, d, product(x, y)),
-        LongOp::Mls => difference(w, d, product(x, y)),
-        LongOp::Mov => cut(w, x),
-        LongOp::Shl(k) => left(w, x, k),
+        LongOp::Add => sum(v, x, y),
+        LongOp::Sub => difference(v, x, y),
+        LongOp::Mul => cut(v, product(x, y)),
+        LongOp::Mla => sum(v, d, product(x, y)),
+        LongOp::Mls => difference(v, d, product(x, y)),
+        LongOp::Mov => cut(v, x),
+        LongOp::Shl(k) => left(v, x, k),
     }
 }
 
-// The same, where the first source has w bits itself.
-fn wide_lane(op: WideOp, w: u32, x: u64, y: u64) -> u64
-    requires { ⌜ (0 < w) × (w ≤ 64) ⌝ }
-    ensures { λ r. ⌜ r ≡ modulo w (exactWide op (pos x) (pos y)) ⌝ }
+// The same, where the first source has v bits itself.
+fn wide_lane(op: WideOp, v: u32, x: u64, y: u64) -> u64
+    requires { ⌜ (0 < v) × (v ≤ 64) ⌝ }
+    ensures { λ r. ⌜ r ≡ modulo v (exactWide op (pos x) (pos y)) ⌝ }
 {
     match op {
-        WideOp::Add => sum(w, x, y),
-        WideOp::Sub => difference(w, x, y),
+        WideOp::Add => sum(v, x, y),
+        WideOp::Sub => difference(v, x, y),
     }
 }
 

@@ -83,31 +83,31 @@ no-form m e = go (formOf (nameOf m)) (listedForm m ∙ e)
     go Float h = wrong (sym h)
     go Nothing h = refl
 
--- a name whose lanes are of unlike width has at most 32 bits in the narrow ones
-abbrev pub narrowShift : Direction → Width → Bool
-narrowShift way.Left w = true
-narrowShift (way.Right s) w = true
-narrowShift (way.Long s) w = leb (bitsOf w) 32
-narrowShift way.Narrow w = leb (bitsOf w) 32
+-- a name whose lanes are of unlike width has at most 32 bits in the shorter ones
+abbrev pub shiftTo32 : Direction → Width → Bool
+shiftTo32 way.Left w = true
+shiftTo32 (way.Right s) w = true
+shiftTo32 (way.Long s) w = leb (bitsOf w) 32
+shiftTo32 way.Narrow w = leb (bitsOf w) 32
 
-abbrev pub narrow : Form → Bool
-narrow (Double op w) = leb (bitsOf w) 32
-narrow (Extend s w) = leb (bitsOf w) 32
-narrow (Shift way w) = narrowShift way w
-narrow (Lanes op w) = true
-narrow (Bits op) = true
-narrow Copy = true
-narrow (Number op w) = true
-narrow Float = true
-narrow Nothing = true
+abbrev pub formTo32 : Form → Bool
+formTo32 (Double op w) = leb (bitsOf w) 32
+formTo32 (Extend s w) = leb (bitsOf w) 32
+formTo32 (Shift way w) = shiftTo32 way w
+formTo32 (Lanes op w) = true
+formTo32 (Bits op) = true
+formTo32 Copy = true
+formTo32 (Number op w) = true
+formTo32 Float = true
+formTo32 Nothing = true
 
-narrow-below : (m : ℕ) → m < 346 → narrow (formAt m) ≡ true
+to32-below : (m : ℕ) → m < 346 → formTo32 (formAt m) ≡ true
 unfolding values numbered formAt
-narrow-below = agree (λ (m : ℕ). narrow (formAt m)) (λ (m : ℕ). true) 346 refl
+to32-below = agree (λ (m : ℕ). formTo32 (formAt m)) (λ (m : ℕ). true) 346 refl
 
-pub all-narrow : (m : ℕ) → narrow (formOf (nameOf m)) ≡ true
-all-narrow m = go (ltb m 346) refl
+pub all-to32 : (m : ℕ) → formTo32 (formOf (nameOf m)) ≡ true
+all-to32 m = go (ltb m 346) refl
   where
-    go : (b : Bool) → ltb m 346 ≡ b → narrow (formOf (nameOf m)) ≡ true
-    go true e = ap narrow (form-at m) ∙ narrow-below m (ltb-true m 346 e)
-    go false e = ap (λ (s : String). narrow (formOf s)) (no-name m (ltb-false m 346 e)) ∙ ap narrow blank
+    go : (b : Bool) → ltb m 346 ≡ b → formTo32 (formOf (nameOf m)) ≡ true
+    go true e = ap formTo32 (form-at m) ∙ to32-below m (ltb-true m 346 e)
+    go false e = ap (λ (s : String). formTo32 (formOf s)) (no-name m (ltb-false m 346 e)) ∙ ap formTo32 blank

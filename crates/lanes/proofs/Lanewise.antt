@@ -6,10 +6,9 @@ use native.Mathlib.Nat.{mul-suc, mul-zero, zero-add, suc-add, mul-assoc, mul-com
 use native.Mathlib.Omega.{arith}
 use lib.Pow.{pow-pos, pow-mono, pow-add, shr-shr, mod-pow-add}
 use lib.Arith.{lt-one, digits-lt}
-use lib.Dec.{lit<, lit≤}
 use Rattle.insn.specs.declared.Width.{Width}
-use Rattle.insn.specs.declared.Width.the-variants.{B8, B16, B32, B64}
-use Rattle.insn.specs.Widths.{bitsOf}
+use Rattle.insn.specs.Widths.{sizeOf, bitsOf}
+use Rattle.insn.proofs.Sizes.{bits-pos, bits-le}
 use Rattle.lanes.specs.Lane.{lanewise}
 use Rattle.lanes.specs.Promises.{laneAt}
 
@@ -60,6 +59,11 @@ module _ (f : ℕ → ℕ → ℕ → ℕ) (wd wn wm : ℕ) where
         mul-assoc,
         add-assoc,
       )
+
+  -- k lanes below k lanes, which are z bits of each operand
+  pub halves : (k z zn zm a b c d e g : ℕ) → wd * k ≡ z → wn * k ≡ zn → wm * k ≡ zm → a < 2 ^ z → c < 2 ^ zn → e < 2 ^ zm
+      → lanewise f wd wn wm (k + k) (a + 2 ^ z * b) (c + 2 ^ zn * d) (e + 2 ^ zm * g) ≡ lanewise f wd wn wm k a c e + 2 ^ z * lanewise f wd wn wm k b d g
+  halves k z zn zm a b c d e g p q r ha hc he = rw (← p, ← q, ← r) (split k k a b c d e g (rw (← p) at ha) (rw (← q) at hc) (rw (← r) at he))
 
   -- one more lane, at the low end: what a turn of the loop does
   pub next : (c i d n m : ℕ) → 0 < i → i ≤ c
@@ -163,9 +167,6 @@ module _ (w c i s : ℕ) (p : 0 < i) (q : i ≤ c) (e : w * c ≤ s) where
       let k : 2 ^ (w * c) ≤ 2 ^ s = pow-mono e in
       rw last-bit (omega (arith, mul-suc (2 ^ (w * i)) r))
 
--- the widths fill 64 bits
-pub fill : (w : Width) (b : ℕ) → b ≡ bitsOf w → (0 < b) × (b ≤ 64) × (b * (64 / b) ≡ 64)
-fill B8 b e = rw e (lit< tt, lit≤ tt, refl)
-fill B16 b e = rw e (lit< tt, lit≤ tt, refl)
-fill B32 b e = rw e (lit< tt, lit≤ tt, refl)
-fill B64 b e = rw e (lit< tt, lit≤ tt, refl)
+-- a width's bits are some, and at most 64
+pub bounds : (w : Width) (b : ℕ) → b ≡ bitsOf w → (0 < b) × (b ≤ 64)
+bounds w b e = rw e (bits-pos (sizeOf w), bits-le w)

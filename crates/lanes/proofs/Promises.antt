@@ -1,15 +1,15 @@
 -- The proofs of what specs/Promises.antt states.
 -- Assumes nothing.
 use mathlib.Core.Path.{refl}
-use Prim.Native.Nat.{_/_}
+use Prim.Native.Nat.{_-_, _/_, _^_}
 use native.Mathlib.Nat.{lt-of-lt-of-le, mul-div-le}
 use lib.Pow.{pow-mono}
 use Rattle.laws.specs.Signed.{twosComplement, modulo}
 use Rattle.laws.proofs.Signed.{modulo-lt}
-use Rattle.insn.specs.declared.Width.the-variants.{B8, B16, B32, B64}
 use Rattle.arithmetic.specs.Whole.{readAs, greater, lesser, onesIf}
 use Rattle.lanes.specs.Lane.{exact, laneOf, lanewise, lanesOf}
-use Rattle.insn.specs.Widths.{bitsOf}
+use Rattle.insn.specs.Widths.{sizeOf, bitsOf}
+use Rattle.insn.proofs.Sizes.{size-le, lanes}
 use Rattle.lanes.specs.Promises.{EachLane, Split, LaneBelow, LanesBelow, ReadBack, Worked, RowByHalves}
 use Rattle.arithmetic.proofs.Signs as signs
 use Rattle.lanes.proofs.Lanewise as laws
@@ -22,10 +22,10 @@ split = laws.split
 
 pub rowByHalves : RowByHalves
 unfolding lanesOf
-rowByHalves op B8 = split (laneOf op 8) 8 8 8 8 8
-rowByHalves op B16 = split (laneOf op 16) 16 16 16 4 4
-rowByHalves op B32 = split (laneOf op 32) 32 32 32 2 2
-rowByHalves op B64 = split (laneOf op 64) 64 64 64 1 1
+rowByHalves op w a b c d e g =
+    let l = lanes (sizeOf w) 3 (size-le w) in
+    let v = bitsOf w in
+    rw (l .doubled, l .counted) (laws.halves (laneOf op v) v v v (2 ^ (3 - sizeOf w)) 64 64 64 a b c d e g (l .fill) (l .fill) (l .fill))
 
 pub laneBelow : LaneBelow
 unfolding laneOf

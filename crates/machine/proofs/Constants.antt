@@ -30,7 +30,6 @@ use Rattle.immediates.specs.Modified.{byte, eachBit, float, undefined, constant
 use Rattle.floats.proofs.Found.{back-found}
 use Rattle.read_immediates.specs.Modimm.{modimmOf, imm8Of, modimmReading}
 use Rattle.readings.specs.Operands.{isSet, insn}
-use Rattle.readings.specs.Operands as Read
 use Rattle.decode.specs.Reading.{reading, inFamily}
 use Rattle.insn.specs.declared.Width.{Width}
 use Rattle.insn.specs.declared.Width.the-variants.{B8, B16, B32, B64}

@@ -7,9 +7,15 @@ use lib.Bits.{or-self}
 use Rattle.laws.specs.Answer.{Answer, accepted, refused}
 use Rattle.laws.specs.Choice.{choose}
 use Rattle.laws.proofs.Never.{never}
+use Rattle.laws.specs.Signed.{modulo}
 use Rattle.insn.specs.declared.Insn.{Insn}
+use Rattle.insn.specs.declared.Sign.{Sign}
+use Rattle.insn.specs.declared.Width.{Width}
 use Rattle.insn.proofs.Promises.{numberedApart}
 use Rattle.fields.specs.Registers.{Bits, bits, vecBits}
+use Rattle.double_lanes.specs.declared.LongOp.the-variants as long
+use Rattle.double_lanes.specs.declared.DoubleOp.the-variants.{Long}
+use Rattle.double_lanes.proofs.Doubles.{shift-none}
 use Rattle.operations.specs.declared.BitOp.the-variants.{Orr, Mov}
 use Rattle.operations.specs.declared.Operation.the-variants.{Bits as Bitwise}
 use Rattle.forms.specs.declared.Form.the-variants.{Bits as Orred, Copy}
@@ -19,10 +25,10 @@ use Rattle.meanings.specs.declared.Numbers.{Numbers}
 use Rattle.machine.specs.declared.Outcome.the-variants.{Done, Refused as Stopped}
 use Rattle.machine.specs.File.{File, Good, readD}
 use Rattle.forms.specs.Forms.{groups, namedForms, formOf}
-use Rattle.meanings.specs.Meaning.{Act, act, registers, numbers, lengthsIn, numbersIn, Trio, trio, gathered, sameLengths, acting, meaningIn, meaningOf}
+use Rattle.meanings.specs.Meaning.{Act, act, double, registers, numbers, lengthsIn, numbersIn, Trio, trio, gathered, sameLengths, acting, doubling, wholePattern, meaningIn, meaningOf}
 use Rattle.operations.specs.Operations.{resultOf}
 use Rattle.machine.specs.Step.{effect, stepBy, stepInsn}
-use Rattle.machine.specs.Promises.{FileKept, OnlyTarget, CopyAlias, QuadHalves, UnlikeHalves, OutcomesApart}
+use Rattle.machine.specs.Promises.{FileKept, OnlyTarget, CopyAlias, LongMoveAlias, QuadHalves, UnlikeHalves, OutcomesApart}
 use Rattle.meanings.proofs.Actions.{Fits, meant}
 use Rattle.machine.proofs.Steps.{effect-good, effect-other, quad-halves, unlike-halves}
 
@@ -83,11 +89,29 @@ pub copyAlias : CopyAlias
 unfolding meaningOf meaningIn
 copyAlias i j file a b c d e f g = rw (a, vorr-form, b, c, d, vmov-form, e, f, g) (alike file (gathered (vecBits (i .first)) (vecBits (i .second)) (vecBits (i .second))) (equal-sources (vecBits (i .first)) (vecBits (i .second))))
 
+-- a shift by 0 does what a move does
+long-moved : (file : File) (s : Sign) (w : Width) (g : Answer Trio)
+    → stepBy (doubling (Long (long.Shl 0) s) w g) file ≡ stepBy (doubling (Long long.Mov s) w g) file
+unfolding doubling stepBy effect
+long-moved file s w (accepted (trio l r)) = go (sameLengths l (lengths true false false))
+  where
+    go : (b : Bool)
+        → stepBy (choose b (accepted (double (Long (long.Shl 0) s) w r)) (refused 10)) file
+        ≡ stepBy (choose b (accepted (double (Long long.Mov s) w r)) (refused 10)) file
+    go true = rw shift-none
+    go false = refl
+long-moved file s w (refused k) = refl
+
+pub longMoveAlias : LongMoveAlias
+unfolding modulo wholePattern meaningOf meaningIn
+longMoveAlias i j file s w a b c d e f g =
+    rw (a, b, c, d, e, f, g) (long-moved file s w (gathered (vecBits (i .first)) (vecBits (i .second)) (vecBits (i .second))))
+
 pub quadHalves : QuadHalves
 quadHalves op t a b file s g = quad-halves op t a b file s g
 
 pub unlikeHalves : UnlikeHalves
-unlikeHalves op w r file narrow g = unlike-halves op w r file narrow g
+unlikeHalves op w r file small g = unlike-halves op w r file small g
 
 pub outcomesApart : OutcomesApart
 outcomesApart Done Done f g e = refl

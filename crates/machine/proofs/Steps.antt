@@ -20,7 +20,7 @@ use Rattle.operations.specs.declared.Operation.{Operation}
 use Rattle.meanings.specs.declared.Numbers.{Numbers}
 use Rattle.meanings.specs.declared.Registers.{Registers}
 use Rattle.machine.specs.File.{File, Good, readD, readR, writeR}
-use Rattle.machine.specs.Halves.{readHalf, writeHalves, halfLeft}
+use Rattle.machine.specs.Halves.{readHalf, writeHalves, halfAfter}
 use Rattle.meanings.specs.Meaning.{Act, act, double, registers, lengthsIn, numbersIn}
 use Rattle.meanings.proofs.Actions.{Sound}
 use Rattle.operations.specs.Operations.{resultOf, Sized}
@@ -64,9 +64,9 @@ module _ (op : Operation) (file : File) where
   wordOf d n m = resultOf 64 op (readD file d) (readD file n) (readD file m)
 
   -- on doublewords it is one store
-  pub double-effect : (d n m : ℕ) → effect (act op (registers false d n m)) file ≡ set file d (wordOf d n m)
+  pub word-effect : (d n m : ℕ) → effect (act op (registers false d n m)) file ≡ set file d (wordOf d n m)
   unfolding effect
-  double-effect d n m = refl
+  word-effect d n m = refl
 
   -- on quadwords it is one write of 128 bits
   pub quad-effect : (d n m : ℕ)
@@ -87,9 +87,9 @@ module _ (op : Operation) (file : File) where
 
   -- so that these stores are its effect
   module _ (r : Registers) (low : ℕ) (l : low ≡ wordOf (r .d) (r .n) (r .m)) where
-    pub double-stored : r .quad ≡ false → set file (r .d) low ≡ effect (act op r) file
+    pub word-stored : r .quad ≡ false → set file (r .d) low ≡ effect (act op r) file
     unfolding effect
-    double-stored q = rw (q, l)
+    word-stored q = rw (q, l)
 
     pub quad-stored : (high : ℕ) → high ≡ wordOf (r .d + 1) (r .n + 1) (r .m + 1) → r .quad ≡ true → Sized op → Good file
         → set (set file (r .d) low) (r .d + 1) high ≡ effect (act op r) file
@@ -107,7 +107,7 @@ module _ (op : Operation) (file : File) where
       go true =
           rw (quad-words (r .d) (r .n) (r .m) s g)
           (set-good (set file (r .d) (wordOf (r .d) (r .n) (r .m))) (r .d + 1) (wordOf (r .d + 1) (r .n + 1) (r .m + 1)) low (word-lt (r .d + 1) (r .n + 1) (r .m + 1) s g))
-      go false = rw (double-effect (r .d) (r .n) (r .m)) low
+      go false = rw (word-effect (r .d) (r .n) (r .m)) low
 
 -- on quadwords it is the effect on their low doublewords and then on their high ones
 pub quad-halves : (op : Operation) (t a b : ℕ) (file : File) → Sized op → Good file
@@ -118,8 +118,8 @@ quad-halves op t a b file s g =
     let kept : (k : ℕ) → readD (set file (2 * t) v) (2 * k + 1) ≡ readD file (2 * k + 1) = λ k. getD-set-other file (2 * t) (2 * k + 1) v 0 (λ e. let z : ⊥ = omega arith in z) in
     rw (
       quad-words op file (2 * t) (2 * a) (2 * b) s g,
-      double-effect op file (2 * t) (2 * a) (2 * b),
-      double-effect op (set file (2 * t) v) (2 * t + 1) (2 * a + 1) (2 * b + 1),
+      word-effect op file (2 * t) (2 * a) (2 * b),
+      word-effect op (set file (2 * t) v) (2 * t + 1) (2 * a + 1) (2 * b + 1),
       kept t,
       kept a,
       kept b,
@@ -145,15 +145,15 @@ halves-good true file k low high g l h = set-good (set file k low) (k + 1) high 
 halves-good false file k low high g l h = set-good file k (low + 2 ^ 32 * high) g (omega arith)
 
 -- an operation on registers of unlike length
-module _ (op : DoubleOp) (w : Width) (r : Numbers) (file : File) (narrow : bitsOf w ≤ 32) (g : Good file) where
+module _ (op : DoubleOp) (w : Width) (r : Numbers) (file : File) (small : bitsOf w ≤ 32) (g : Good file) where
   abbrev l : Lengths
   l = lengthsOf op
 
-  abbrev left : ℕ → ℕ
-  left h = halfLeft op w r file h
+  abbrev after : ℕ → ℕ
+  after h = halfAfter op w r file h
 
   -- goes by halves, all read before either is written
-  pub unlike-halves : effect (double op w r) file ≡ writeHalves (l .d) file (r .d) (left 0) (left 1)
+  pub unlike-halves : effect (double op w r) file ≡ writeHalves (l .d) file (r .d) (after 0) (after 1)
   unfolding effect
   unlike-halves =
       let d = by-halves (l .d) file (r .d) g in
@@ -164,21 +164,21 @@ module _ (op : DoubleOp) (w : Width) (r : Numbers) (file : File) (narrow : bitsO
         n .whole,
         m .whole,
         doubleHalves op w (readHalf (l .d) file (r .d) 0) (readHalf (l .d) file (r .d) 1) (readHalf (l .n) file (r .n) 0) (readHalf (l .n) file (r .n) 1)
-            (readHalf (l .m) file (r .m) 0) (readHalf (l .m) file (r .m) 1) narrow (d .below) (n .below) (m .below),
+            (readHalf (l .m) file (r .m) 0) (readHalf (l .m) file (r .m) 1) small (d .below) (n .below) (m .below),
       )
-      (write-halves (l .d) file (r .d) (left 0) (left 1) (halfBelow op w _ _ _))
+      (write-halves (l .d) file (r .d) (after 0) (after 1) (halfBelow op w _ _ _))
 
   unlike-good : Good (effect (double op w r) file)
-  unlike-good = rw unlike-halves (halves-good (l .d) file (r .d) (left 0) (left 1) g (halfBelow op w _ _ _) (halfBelow op w _ _ _))
+  unlike-good = rw unlike-halves (halves-good (l .d) file (r .d) (after 0) (after 1) g (halfBelow op w _ _ _) (halfBelow op w _ _ _))
 
   -- so that these stores are its effect
-  module _ (low high : ℕ) (el : low ≡ left 0) (eh : high ≡ left 1) where
+  module _ (low high : ℕ) (el : low ≡ after 0) (eh : high ≡ after 1) where
     pub long-stored : l .d ≡ true → set (set file (r .d) low) (r .d + 1) high ≡ effect (double op w r) file
-    long-stored q = rw (el, eh) (sym (unlike-halves ∙ ap (λ (q : Bool). writeHalves q file (r .d) (left 0) (left 1)) q))
+    long-stored q = rw (el, eh) (sym (unlike-halves ∙ ap (λ (q : Bool). writeHalves q file (r .d) (after 0) (after 1)) q))
 
     pub narrow-stored : l .d ≡ false → set file (r .d) (low + high * 2 ^ 32) ≡ effect (double op w r) file
     narrow-stored q =
-        rw (mul-comm high, el, eh) (sym (unlike-halves ∙ ap (λ (q : Bool). writeHalves q file (r .d) (left 0) (left 1)) q))
+        rw (mul-comm high, el, eh) (sym (unlike-halves ∙ ap (λ (q : Bool). writeHalves q file (r .d) (after 0) (after 1)) q))
 
 -- an act keeps the file good
 pub effect-good : (x : Act) (file : File) → Sound x → Good file → Good (effect x file)

@@ -19,7 +19,7 @@ abbrev pub writeHalves : Bool → File → ℕ → ℕ → ℕ → File
 writeHalves quad file k low high = choose quad (writeD (writeD file k low) (k + 1) high) (writeD file k (low + 2 ^ 32 * high))
 
 -- what an operation leaves in half h of its target
-abbrev pub halfLeft : DoubleOp → Width → Numbers → File → ℕ → ℕ
-halfLeft op w r file h =
+abbrev pub halfAfter : DoubleOp → Width → Numbers → File → ℕ → ℕ
+halfAfter op w r file h =
     let l = lengthsOf op in
     halfOf op w (readHalf (l .d) file (r .d) h) (readHalf (l .n) file (r .n) h) (readHalf (l .m) file (r .m) h)

@@ -4,21 +4,27 @@ use mathlib.Core.Bool.{Bool, true, false}
 use mathlib.Core.Logic.{_≢_}
 use mathlib.Core.Path.{_≡_}
 use Prim.Native.Nat.{ℕ, _+_, _*_, _≤_}
+use lib.IntN.{pos}
 use Rattle.laws.specs.Answer.{accepted}
 use Rattle.insn.specs.declared.Insn.{Insn}
+use Rattle.insn.specs.declared.Operand.the-variants.{Imm}
+use Rattle.insn.specs.declared.Sign.{Sign}
+use Rattle.insn.specs.declared.Width.{Width}
+use Rattle.insn.specs.Widths.{bitsOf}
 use Rattle.names.specs.Names.{nameOf}
 use Rattle.fields.specs.Registers.{bits, vecBits}
 use Rattle.decode.specs.Reading.{reading}
+use Rattle.forms.specs.declared.Direction.the-variants.{Long}
+use Rattle.forms.specs.declared.Form.the-variants.{Shift, Extend}
+use Rattle.forms.specs.Forms.{formOf}
 use Rattle.forms.specs.Promises.{listed}
 use Rattle.operations.specs.declared.Operation.{Operation}
 use Rattle.machine.specs.declared.Outcome.{Outcome}
 use Rattle.machine.specs.Answers.{outcomeAnswer}
-use Rattle.insn.specs.declared.Width.{Width}
-use Rattle.insn.specs.Widths.{bitsOf}
 use Rattle.double_lanes.specs.declared.DoubleOp.{DoubleOp}
 use Rattle.double_lanes.specs.Double.{lengthsOf}
 use Rattle.machine.specs.File.{File, Good, readD}
-use Rattle.machine.specs.Halves.{writeHalves, halfLeft}
+use Rattle.machine.specs.Halves.{writeHalves, halfAfter}
 use Rattle.meanings.specs.declared.Numbers.{Numbers}
 use Rattle.meanings.specs.Meaning.{Act, act, double, registers, meaningOf}
 use Rattle.operations.specs.Operations.{Sized}
@@ -41,6 +47,13 @@ CopyAlias =
     → nameOf (j .mnemonic) ≡ "vmov" → j .count ≡ 2 → j .first ≡ i .first → j .second ≡ i .second
     → stepInsn i file ≡ stepInsn j file
 
+-- vshll by 0 is the step that vmovl of its sign and width is
+abbrev pub LongMoveAlias : Type 0
+LongMoveAlias =
+    (i j : Insn) (file : File) (s : Sign) (w : Width) → formOf (nameOf (i .mnemonic)) ≡ Shift (Long s) w → i .count ≡ 3 → i .third ≡ Imm (pos 0)
+    → formOf (nameOf (j .mnemonic)) ≡ Extend s w → j .count ≡ 2 → j .first ≡ i .first → j .second ≡ i .second
+    → stepInsn i file ≡ stepInsn j file
+
 -- on quadwords an operation is that on their low doublewords and that on their high ones
 abbrev pub QuadHalves : Type 0
 QuadHalves =
@@ -52,7 +65,7 @@ QuadHalves =
 abbrev pub UnlikeHalves : Type 0
 UnlikeHalves =
     (op : DoubleOp) (w : Width) (r : Numbers) (file : File) → bitsOf w ≤ 32 → Good file
-    → effect (double op w r) file ≡ writeHalves (lengthsOf op .d) file (r .d) (halfLeft op w r file 0) (halfLeft op w r file 1)
+    → effect (double op w r) file ≡ writeHalves (lengthsOf op .d) file (r .d) (halfAfter op w r file 0) (halfAfter op w r file 1)
 
 -- an answer says which case it is
 abbrev pub OutcomesApart : Type 0

@@ -4,7 +4,7 @@ ghost use Prim.Native.Nat.{_<_, _≤_};
 ghost use Rattle.double_lanes.specs.Double.{lengthsOf};
 ghost use Rattle.insn.specs.Widths.{bitsOf};
 ghost use Rattle.machine.specs.Answers.{steppedAnswer};
-ghost use Rattle.machine.specs.Halves.{readHalf, halfLeft};
+ghost use Rattle.machine.specs.Halves.{readHalf, halfAfter};
 ghost use Rattle.machine.specs.Step.{effect, stepInsn, stepPair, fileAfter};
 ghost use Rattle.meanings.specs.Meaning.{act, double};
 ghost use Rattle.meanings.specs.Own.{InFile, Within};
@@ -63,9 +63,9 @@ fn half_of(file: &[u64; 32], quad: bool, k: usize, h: usize) -> u64
 }
 
 // What an operation on registers of unlike length leaves in a half of its target.
-fn half_left(file: &[u64; 32], op: DoubleOp, w: Width, r: Numbers, h: usize) -> u64
+fn half_after(file: &[u64; 32], op: DoubleOp, w: Width, r: Numbers, h: usize) -> u64
     requires { ⌜ Within (lengthsOf op) (r .d) (r .n) (r .m) × (h < 2) ⌝ }
-    ensures { λ v. ⌜ v ≡ halfLeft op w r (now (file .entry)) h ⌝ }
+    ensures { λ v. ⌜ v ≡ halfAfter op w r (now (file .entry)) h ⌝ }
 {
     let l = lengths_of(op);
     let d = half_of(file, l.d, r.d as usize, h);
@@ -81,13 +81,13 @@ fn perform_unlike(file: [u64; 32], op: DoubleOp, w: Width, r: Numbers) -> [u64; 
 {
     let l = lengths_of(op);
     let d = r.d as usize;
-    let low = half_left(&file, op, w, r, 0);
+    let low = half_after(&file, op, w, r, 0);
     let mut after = file;
     if l.d {
         after[d] = low;
-        after[d + 1] = half_left(&file, op, w, r, 1);
+        after[d + 1] = half_after(&file, op, w, r, 1);
     } else {
-        after[d] = low + half_left(&file, op, w, r, 1) * 0x1_0000_0000;
+        after[d] = low + half_after(&file, op, w, r, 1) * 0x1_0000_0000;
     }
     after
 }

@@ -32,7 +32,7 @@ use Rattle.double_lanes.specs.declared.DoubleOp.the-variants.{Long, Narrow}
 use Rattle.double_lanes.specs.Double.{lengthsOf}
 use Rattle.insn.specs.Widths.{bitsOf}
 use Rattle.forms.proofs.Promises as forms
-use Rattle.forms.proofs.Promises.{narrowShift}
+use Rattle.forms.proofs.Promises.{shiftTo32}
 use Rattle.operations.specs.declared.BitOp.the-variants.{Mov}
 use Rattle.operations.specs.declared.ConstantOp.the-variants as constant
 use Rattle.operations.specs.declared.Operation.{Operation}
@@ -80,13 +80,13 @@ module _ (P : Answer Act → Type 0) (stop : (n : ℕ) → P (refused n)) where
 
   module _ (a : Operand) (each : (op : Operation) (b c : Operand) → Sized op → P (on op a b c))
       (every : (op : DoubleOp) (w : Width) (b c : Operand) → leb (bitsOf w) 32 ≡ true → P (onUnlike op w a b c)) where
-    shift-by : (way : Direction) (w : Width) (k : ℕ) (b : Operand) → narrowShift way w ≡ true → P (shifting way w k a b)
+    shift-by : (way : Direction) (w : Width) (k : ℕ) (b : Operand) → shiftTo32 way w ≡ true → P (shifting way w k a b)
     shift-by way.Left w k b h = each (Lanes (Shl k) w) b b tt
     shift-by (way.Right s) w k b h = each (Lanes (Shr s k) w) b b tt
     shift-by (way.Long s) w k b h = every (Long (long.Shl k) s) w b b h
     shift-by way.Narrow w k b h = every (Narrow (narrow.Shr k)) w b b h
 
-    in-form : (f : Form) (b c : Operand) → forms.narrow f ≡ true → P (meaningIn f a b c)
+    in-form : (f : Form) (b c : Operand) → forms.formTo32 f ≡ true → P (meaningIn f a b c)
     unfolding meaningIn
     in-form (form.Lanes op w) b c n = each (Lanes op w) b c tt
     in-form (form.Bits op) b c n = each (Bitwise op) b c tt
@@ -115,7 +115,7 @@ module _ (P : Answer Act → Type 0) (stop : (n : ℕ) → P (refused n)) where
   unfolding meaningOf
   any-meaning i each every =
       let f = formOf (nameOf (i .mnemonic)) in
-      pick (eqb (i .count) (countOf f)) (in-form (i .first) each every f (i .second) (i .third) (forms.all-narrow (i .mnemonic)))
+      pick (eqb (i .count) (countOf f)) (in-form (i .first) each every f (i .second) (i .third) (forms.all-to32 (i .mnemonic)))
 
 -- a register that has a number is in the file
 in-file : (x : Operand) (q : Bool) (d : ℕ) → vecBits x ≡ accepted (bits q d) → InFile q d

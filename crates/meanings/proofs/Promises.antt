@@ -10,7 +10,7 @@ use Rattle.insn.proofs.Promises.{numberedApart}
 use Rattle.meanings.specs.declared.Meaning.the-variants.{Does, Doubles, Refused}
 use Rattle.forms.proofs.Promises.{no-form}
 use Rattle.meanings.specs.Meaning.{Act, double, meaningIn, meaningOf}
-use Rattle.meanings.specs.Promises.{Unlisted, NarrowLanes, MeaningsApart}
+use Rattle.meanings.specs.Promises.{Unlisted, LanesTo32, MeaningsApart}
 use Rattle.meanings.proofs.Actions.{meant}
 
 pub unlisted : Unlisted
@@ -21,8 +21,8 @@ unlisted i e = rw (no-form (i .mnemonic) e) (none (eqb (i .count) 0))
     none true = refl
     none false = refl
 
-pub narrowLanes : NarrowLanes
-narrowLanes i op w r e = meant i (double op w r) e .sound
+pub lanesTo32 : LanesTo32
+lanesTo32 i op w r e = meant i (double op w r) e .sound
 
 pub meaningsApart : MeaningsApart
 meaningsApart (Does p r) (Does q s) e = let k : p ≡ q = cc in let m : r ≡ s = cc in λ i. Does (k i) (m i)

@@ -19,8 +19,8 @@ abbrev pub Unlisted : Type 0
 Unlisted = (i : Insn) → listed (i .mnemonic) ≡ false → meaningOf i ≡ refused 10
 
 -- an operation on registers of unlike length has lanes of 8, 16 or 32 bits in a doubleword
-abbrev pub NarrowLanes : Type 0
-NarrowLanes = (i : Insn) (op : DoubleOp) (w : Width) (r : Numbers) → meaningOf i ≡ accepted (double op w r) → bitsOf w ≤ 32
+abbrev pub LanesTo32 : Type 0
+LanesTo32 = (i : Insn) (op : DoubleOp) (w : Width) (r : Numbers) → meaningOf i ≡ accepted (double op w r) → bitsOf w ≤ 32
 
 -- an answer says which case it is
 abbrev pub MeaningsApart : Type 0

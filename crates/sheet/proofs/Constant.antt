@@ -23,7 +23,7 @@ use Rattle.machine.specs.File.{File}
 use Rattle.meanings.specs.Meaning.{Act, act, registers, repeated, meaningIn}
 use Rattle.operations.specs.Operations.{bitwise, resultOf}
 use Rattle.machine.specs.Step.{effect}
-use Rattle.machine.proofs.Steps.{double-effect}
+use Rattle.machine.proofs.Steps.{word-effect}
 use Rattle.meanings.proofs.Actions.{repeated-lt}
 use Rattle.steps.specs.Meaning.{rowsOf}
 use Rattle.recipes.specs.declared.Recipe.{Recipe}
@@ -129,7 +129,7 @@ join-byte x b p h g k =
 module _ (file : File) (r : ℕ) (size : length file ≡ 32) (hr : r < 32) where
   set-left : (x : ℕ) → x < 2 ^ 32 → effect (act (Constant Mov (repeated B32 x)) (registers false r r r)) file ≡ set file r (twice x)
   unfolding resultOf
-  set-left x h = rw (double-effect (Constant Mov (repeated B32 x)) file r r r, repeated-word x h, add-zero)
+  set-left x h = rw (word-effect (Constant Mov (repeated B32 x)) file r r r, repeated-word x h, add-zero)
 
   add-left : (byte x : ℕ) → byte < 2 ^ 32 → doing (addAct r byte) (set file r x) ≡ set file r (bitOr x (twice byte))
   unfolding addAct resultOf
@@ -141,7 +141,7 @@ module _ (file : File) (r : ℕ) (size : length file ≡ 32) (hr : r < 32) where
           rw (
             doing-cons,
             doing-nil,
-            double-effect (Constant Orr (repeated B32 byte)) (set file r x) r r r,
+            word-effect (Constant Orr (repeated B32 byte)) (set file r x) r r r,
             repeated-word byte h,
             getD-set-same file r x 0 (omega arith),
             set-set,
@@ -211,11 +211,11 @@ module _ (file : File) (r v : ℕ) (size : length file ≡ 32) (hr : r < 28) (hv
         doing-append (wordActs 28 hi) (setMask ∷ joinHalves r ∷ []) f1,
         word-left f1 28 s1 (omega arith) hi (omega arith),
         doing-cons,
-        double-effect (Constant Mov (repeated B64 4294967295)) f2 30 30 30,
+        word-effect (Constant Mov (repeated B64 4294967295)) f2 30 30 30,
         repeated-mask,
         doing-cons,
         doing-nil,
-        double-effect (Bits Bif) f3 r 28 30,
+        word-effect (Bits Bif) f3 r 28 30,
         d,
         n,
         m,

@@ -41,8 +41,7 @@ use Rattle.laws.proofs.Signed.{modulo-pos}
 use Rattle.arithmetic.proofs.Numbers.{cut64}
 use Rattle.immediates.specs.Modified.{copies}
 use Rattle.insn.specs.Widths.{bitsOf}
-use Rattle.insn.specs.declared.Width.the-variants.{B8, B16, B32, B64}
-use lib.Dec.{lit≤}
+use Rattle.insn.proofs.Sizes.{bits-le}
 use native.Mathlib.Omega.{arith}
 
 -- a record is written as a pair, and the pair's step is the act's effect
@@ -112,12 +111,6 @@ shift-executes {q} {x} {y} {d} {n} {name} {class} {number} {column} {cell} {way}
     }
 
 -- an element's bits are among the 64 of a whole number
-bits-le : (w : Width) → bitsOf w ≤ 64
-bits-le B8 = lit≤ tt
-bits-le B16 = lit≤ tt
-bits-le B32 = lit≤ tt
-bits-le B64 = lit≤ tt
-
 repeated-whole : (w : Width) (v : ℕ) → repeated w (modulo 64 (pos v)) ≡ repeated w v
 unfolding repeated modulo
 repeated-whole w v = ap (λ (p : ℕ). copies (64 / bitsOf w) (bitsOf w) p) (cut64 v (bitsOf w) (bits-le w))

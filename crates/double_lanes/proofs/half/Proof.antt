@@ -7,7 +7,7 @@ use native.Mathlib.Omega.{arith}
 use borrow.Author.Needs.{needs}
 use Rattle.tables.specs.declared.lengths.Lengths.{Lengths}
 use Rattle.lanes.specs.Lane.{lanewise}
-use Rattle.lanes.proofs.Lanewise.{lanes-lt, turn, first, last, at-most, room, fill}
+use Rattle.lanes.proofs.Lanewise.{lanes-lt, turn, first, last, at-most, room, bounds}
 use Rattle.double_lanes.specs.Double.{lengthsOf, laneBits, doubleLane, doubleLanes}
 use Rattle.double_lanes.specs.Halves.{halfOf}
 use Rattle.double_lanes.proofs.Doubles.{lane-lt, bits-times, twice}
@@ -47,7 +47,7 @@ place-requires c κs =
     let b = s .bits .result in
     let i = c .before .loop .i in
     let wd = k .before .before .lane-bits .result in
-    let f = fill (a .w) b (s .bits .ensures) in
+    let f = bounds (a .w) b (s .bits .ensures) in
     let e = widths k in
     let l = mul-div-le 32 b in
     let below : (d n m : ℕ) → doubleLane (a .op) b d n m < 2 ^ wd = λ d n m. rw (e .0) (lane-lt (a .op) b d n m) in
@@ -91,13 +91,13 @@ half-spec =
     μ-loop
     (λ c κs. search needs)
     (λ c κs. search needs)
-    (λ c κs. fill (c .before .before .args .w) (c .bits .result) (c .bits .ensures) .1)
+    (λ c κs. bounds (c .before .before .args .w) (c .bits .result) (c .bits .ensures) .1)
     (λ c κs. let s = c .before in
-    fill (s .before .before .args .w) (s .bits .result) (s .bits .ensures) .1)
+    bounds (s .before .before .args .w) (s .bits .result) (s .bits .ensures) .1)
     (λ c κs. let s = c .before .before in
-    fill (s .before .before .args .w) (s .bits .result) (s .bits .ensures) .1)
+    bounds (s .before .before .args .w) (s .bits .result) (s .bits .ensures) .1)
     (λ c. let s = c .before .before .before in
-    fill (s .before .before .args .w) (s .bits .result) (s .bits .ensures) .0)
+    bounds (s .before .before .args .w) (s .bits .result) (s .bits .ensures) .0)
     (λ c. let s = c .before .before .before in
     let b = s .bits .result in
     (omega arith, first (doubleLane (s .before .before .args .op) b) (c .before .before .lane-bits .result) (c .before .lane-bits2 .result) (c .lane-bits3 .result) (32 / b) _ _ _))

@@ -37,14 +37,14 @@ long-lane-spec =
     (λ c. rw (c .before .enum-told2 .given .1) (c .difference .ensures))
     (λ c. let a = c .before .before .before .before .args in
     rw (c .before .before .enum-told3 .given .1)
-    (c .cut .ensures ∙ ap (λ (p : ℕ). p % 2 ^ a .w) (c .before .product .ensures) ∙ cut64 (a .x * a .y) (a .w) (omega arith)))
+    (c .cut .ensures ∙ ap (λ (p : ℕ). p % 2 ^ a .v) (c .before .product .ensures) ∙ cut64 (a .x * a .y) (a .v) (omega arith)))
     (λ c. let a = c .before .before .before .before .args in
     rw (c .before .before .enum-told4 .given .1)
-    (c .sum2 .ensures ∙ ap (λ (p : ℕ). (a .d + p) % 2 ^ a .w) (c .before .product2 .ensures) ∙ add-cut64 (a .d) (a .x * a .y) (a .w) (omega arith)))
+    (c .sum2 .ensures ∙ ap (λ (p : ℕ). (a .d + p) % 2 ^ a .v) (c .before .product2 .ensures) ∙ add-cut64 (a .d) (a .x * a .y) (a .v) (omega arith)))
     (λ c. let a = c .before .before .before .before .args in
     rw (c .before .before .enum-told5 .given .1)
     (c .difference2 .ensures
-    ∙ ap (λ (p : ℕ). modulo (a .w) (pos (a .d) -ℤ pos p)) (c .before .product3 .ensures)
-    ∙ minus-cut64 (a .w) (a .d) (a .x * a .y) (omega arith)))
+    ∙ ap (λ (p : ℕ). modulo (a .v) (pos (a .d) -ℤ pos p)) (c .before .product3 .ensures)
+    ∙ minus-cut64 (a .v) (a .d) (a .x * a .y) (omega arith)))
     (λ c. rw (c .before .enum-told6 .given .1) (c .cut2 .ensures))
     (λ c. rw (c .before .before .op .given .1) (c .left .ensures)))

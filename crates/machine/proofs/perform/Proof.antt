@@ -3,7 +3,7 @@
 use native.Mathlib.Omega.{arith}
 use borrow.Author.Needs.{needs}
 use Rattle.machine.proofs.Held.{file-good, operation-sized}
-use Rattle.machine.proofs.Steps.{double-stored, quad-stored}
+use Rattle.machine.proofs.Steps.{word-stored, quad-stored}
 use Rattle.machine.proofs.perform.Statement.{statement}
 use Rattle.machine.proofs.perform.Tie as tie
 
@@ -18,7 +18,7 @@ returns-2 : tie.Need-returns-2
 returns-2 c =
     let b = c .before in
     let s = b .before .before .before .before in
-    double-stored (s .args .op) (s .args .t1) (s .args .r) _ (b .value .ensures) (c .if1 .left)
+    word-stored (s .args .op) (s .args .t1) (s .args .r) _ (b .value .ensures) (c .if1 .left)
 
 pub perform-spec : {M : Type 1} → statement M
 perform-spec =

@@ -16,7 +16,7 @@ use Rattle.machine.proofs.perform_unlike.Statement.{statement}
 use Rattle.machine.proofs.perform_unlike.Tie as tie
 
 -- whether the target is a quadword
-target-is : (c : tie.After-half-left) (t : Bool) → c .before .before .before .lengths-of .result .d ≡ t → lengthsOf (c .before .before .before .before .args .op) .d ≡ t
+target-is : (c : tie.After-half-after) (t : Bool) → c .before .before .before .lengths-of .result .d ≡ t → lengthsOf (c .before .before .before .before .args .op) .d ≡ t
 target-is c t e = ap (λ (l : Lengths). l .d) (sym (c .before .before .before .lengths-of .ensures)) ∙ e
 
 -- the halves of a doubleword together have 64 bits
@@ -24,11 +24,11 @@ together : (q : Bool) (low high : ℕ) → low < 2 ^ laneBits q 32 → high < 2 
 together true low high l h e = wrong (sym e)
 together false low high l h e = omega arith
 
-sum-fits : (c : tie.After-half-left3) → c .before .before .before .half-left .result + c .half-left3 .result * 2 ^ 32 < 2 ^ 64
+sum-fits : (c : tie.After-half-after3) → c .before .before .before .half-after .result + c .half-after3 .result * 2 ^ 32 < 2 ^ 64
 sum-fits c =
     let b = c .before .before .before in
     let a = b .before .before .before .before .args in
-    together (lengthsOf (a .op) .d) _ _ (rw (b .half-left .ensures) (halfBelow (a .op) (a .w) _ _ _)) (rw (c .half-left3 .ensures) (halfBelow (a .op) (a .w) _ _ _))
+    together (lengthsOf (a .op) .d) _ _ (rw (b .half-after .ensures) (halfBelow (a .op) (a .w) _ _ _)) (rw (c .half-after3 .ensures) (halfBelow (a .op) (a .w) _ _ _))
     (target-is b false (c .before .before .if1 .left))
 
 returns : tie.Need-returns
@@ -36,7 +36,7 @@ returns c =
     let b = c .before .before .before in
     let s = b .before .before .before .before in
     let a = s .args in
-    long-stored (a .op) (a .w) (a .r) (a .t1) (s .pre .1) (file-good (a .t1) _ (s .good .0)) _ _ (b .half-left .ensures) (c .half-left2 .ensures)
+    long-stored (a .op) (a .w) (a .r) (a .t1) (s .pre .1) (file-good (a .t1) _ (s .good .0)) _ _ (b .half-after .ensures) (c .half-after2 .ensures)
     (target-is b true (c .before .before .if1 .taken))
 
 returns-2 : tie.Need-returns-2
@@ -44,7 +44,7 @@ returns-2 c =
     let b = c .before .before .before in
     let s = b .before .before .before .before in
     let a = s .args in
-    narrow-stored (a .op) (a .w) (a .r) (a .t1) (s .pre .1) (file-good (a .t1) _ (s .good .0)) _ _ (b .half-left .ensures) (c .half-left3 .ensures)
+    narrow-stored (a .op) (a .w) (a .r) (a .t1) (s .pre .1) (file-good (a .t1) _ (s .good .0)) _ _ (b .half-after .ensures) (c .half-after3 .ensures)
     (target-is b false (c .before .before .if1 .left))
 
 pub perform-unlike-spec : {M : Type 1} → statement M

@@ -1,11 +1,11 @@
--- `machine::half_left` meets its contract.
+-- `machine::half_after` meets its contract.
 -- Assumes nothing.
 use borrow.Author.Needs.{needs}
-use Rattle.machine.proofs.half_left.Statement.{statement}
-use Rattle.machine.proofs.half_left.Tie as tie
+use Rattle.machine.proofs.half_after.Statement.{statement}
+use Rattle.machine.proofs.half_after.Tie as tie
 
-pub half-left-spec : {M : Type 1} → statement M
-half-left-spec =
+pub half-after-spec : {M : Type 1} → statement M
+half-after-spec =
     tie.close
     (tie.spec
     (λ c κs. search needs)
