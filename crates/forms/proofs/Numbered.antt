@@ -3,7 +3,7 @@
 use mathlib.Core.Path.{_≡_, refl, sym, ap, _∙_}
 use mathlib.Core.Bool.{Bool, true, false}
 use mathlib.Core.List.{List, [], _∷_}
-use Prim.Native.Nat.{ℕ, suc, _+_, _<_, _≤_}
+use Prim.Native.Nat.{ℕ, suc, _-_, _<_, _≤_}
 use native.Mathlib.Omega.{arith}
 use lib.Dec.{ltb}
 use lib.ListN.{length, getD, List·getD-eq-default}
@@ -136,10 +136,9 @@ form-at m = go (ltb m 346) refl
     go true e = computed m (ltb-true m 346 e)
     go false e = let h = ltb-false m 346 e in ap formOf (no-name m h) ∙ blank ∙ sym (past m h)
 
--- a stretch of n mnemonics from lo on
-pub stretch : (f : ℕ → Form) (lo n : ℕ) → values f lo n ≡ values formAt lo n
-    → {m : ℕ} → lo ≤ m → m < lo + n → f m ≡ formOf (nameOf m)
-stretch f lo n e {m} h k = agree-from f formAt lo n e m h k ∙ sym (form-at m)
+-- the mnemonics from lo on below hi
+pub stretch : (f : ℕ → Form) {lo hi m : ℕ} → lo ≤ m → m < hi → values f lo (hi - lo) ≡ values formAt lo (hi - lo) → f m ≡ formOf (nameOf m)
+stretch f {lo} {hi} {m} h k e = agree-from f formAt lo (hi - lo) e m h (omega arith) ∙ sym (form-at m)
 
 -- one mnemonic
 pub one : {f : Form} (k : ℕ) → f ≡ formAt k → {m : ℕ} → m ≡ k → f ≡ formOf (nameOf m)

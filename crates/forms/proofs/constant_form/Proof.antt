@@ -26,4 +26,4 @@ constant-form-spec =
     (λ c. one 269 refl (c .match .keys9))
     (λ c. one 270 refl (c .match .keys10))
     (λ c. let r = c .match .rest in
-    stretch (λ (m : ℕ). Number Mov B64) 271 1 refl (above (above (above (above (above (above (above (above (above (above (c .before .pre .0) (r .0 .0 .0 .0 .0 .0 .0 .0 .0 .1)) (r .0 .0 .0 .0 .0 .0 .0 .0 .1)) (r .0 .0 .0 .0 .0 .0 .0 .1)) (r .0 .0 .0 .0 .0 .0 .1)) (r .0 .0 .0 .0 .0 .1)) (r .0 .0 .0 .0 .1)) (r .0 .0 .0 .1)) (r .0 .0 .1)) (r .0 .1)) (r .1)) (c .before .pre .1)))
+    stretch (λ (m : ℕ). Number Mov B64) (above (above (above (above (above (above (above (above (above (above (c .before .pre .0) (r .0 .0 .0 .0 .0 .0 .0 .0 .0 .1)) (r .0 .0 .0 .0 .0 .0 .0 .0 .1)) (r .0 .0 .0 .0 .0 .0 .0 .1)) (r .0 .0 .0 .0 .0 .0 .1)) (r .0 .0 .0 .0 .0 .1)) (r .0 .0 .0 .0 .1)) (r .0 .0 .0 .1)) (r .0 .0 .1)) (r .0 .1)) (r .1)) (c .before .pre .1) refl))
