@@ -2,8 +2,10 @@
 use arithmetic::arith::cut;
 use arithmetic::arith::difference;
 use arithmetic::arith::left;
+use arithmetic::arith::multiplied;
 use arithmetic::arith::ones_if;
-use arithmetic::arith::product;
+use arithmetic::arith::product_added;
+use arithmetic::arith::product_taken;
 use arithmetic::arith::sum;
 use arithmetic::whole::greatest;
 use arithmetic::whole::least;
@@ -41,9 +43,9 @@ fn lane(op: LaneOp, w: u32, d: u64, n: u64, m: u64) -> u64
     match op {
         LaneOp::Add => sum(w, n, m),
         LaneOp::Sub => difference(w, n, m),
-        LaneOp::Mul => cut(w, product(n, m)),
-        LaneOp::Mla => sum(w, d, product(n, m)),
-        LaneOp::Mls => difference(w, d, product(n, m)),
+        LaneOp::Mul => multiplied(w, n, m),
+        LaneOp::Mla => product_added(w, d, n, m),
+        LaneOp::Mls => product_taken(w, d, n, m),
         LaneOp::Max(s) => greatest(s, w, n, m),
         LaneOp::Min(s) => least(s, w, n, m),
         LaneOp::Cgt(s) => ones_if(w, less(s, w, m, n)),

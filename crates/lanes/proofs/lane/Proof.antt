@@ -2,15 +2,11 @@
 -- Assumes nothing.
 use mathlib.Core.Bool.{Bool, not}
 use mathlib.Core.Path.{_∙_, ap}
-use Prim.Native.Nat.{ℕ, _+_, _*_, _%_, _^_}
-use native.Mathlib.Omega.{arith}
-use lib.IntN.{pos, _-ℤ_}
 use borrow.Author.Needs.{needs}
 use Rattle.arithmetic.specs.Whole.{readAs, onesIf}
 use Rattle.lanes.specs.Lane.{laneOf}
 use Rattle.laws.specs.Signed.{modulo}
-use Rattle.arithmetic.proofs.Numbers.{cut64, add-cut64}
-use Rattle.arithmetic.proofs.Signs.{minus-cut64, le-not-lt}
+use Rattle.arithmetic.proofs.Signs.{le-not-lt}
 use Rattle.lanes.proofs.lane.Statement.{statement}
 use Rattle.lanes.proofs.lane.Tie as tie
 
@@ -25,12 +21,9 @@ lane-spec =
     (λ c κs. search needs)
     (λ c. search needs)
     (λ c κs. search needs)
-    (λ c κs. search needs)
     (λ c. search needs)
     (λ c κs. search needs)
-    (λ c κs. search needs)
     (λ c. search needs)
-    (λ c κs. search needs)
     (λ c κs. search needs)
     (λ c. search needs)
     (λ c κs. search needs)
@@ -52,15 +45,9 @@ lane-spec =
     (λ c κs. search needs)
     (λ c. rw (c .before .enum-told .given .1) (c .sum .ensures))
     (λ c. rw (c .before .enum-told2 .given .1) (c .difference .ensures))
-    (λ c. let a = c .before .before .before .before .args in
-    rw (c .before .before .enum-told3 .given .1)
-    (c .cut .ensures ∙ ap (λ (p : ℕ). p % 2 ^ a .w) (c .before .product .ensures) ∙ cut64 (a .n * a .m) (a .w) (omega arith)))
-    (λ c. let a = c .before .before .before .before .args in
-    rw (c .before .before .enum-told4 .given .1)
-    (c .sum2 .ensures ∙ ap (λ (p : ℕ). (a .d + p) % 2 ^ a .w) (c .before .product2 .ensures) ∙ add-cut64 (a .d) (a .n * a .m) (a .w) (omega arith)))
-    (λ c. let a = c .before .before .before .before .args in
-    rw (c .before .before .enum-told5 .given .1)
-    (c .difference2 .ensures ∙ ap (λ (p : ℕ). modulo (a .w) (pos (a .d) -ℤ pos p)) (c .before .product3 .ensures) ∙ minus-cut64 (a .w) (a .d) (a .n * a .m) (omega arith)))
+    (λ c. rw (c .before .enum-told3 .given .1) (c .multiplied .ensures))
+    (λ c. rw (c .before .enum-told4 .given .1) (c .product-added .ensures))
+    (λ c. rw (c .before .enum-told5 .given .1) (c .product-taken .ensures))
     (λ c. rw (c .before .before .op .given .1) (c .greatest .ensures))
     (λ c. rw (c .before .before .op2 .given .1) (c .least .ensures))
     (λ c. let w = c .before .before .before .before .before .args .w in
