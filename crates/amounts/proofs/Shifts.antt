@@ -2,10 +2,9 @@
 -- Assumes nothing.
 use mathlib.Core.Path.{_≡_, refl}
 use mathlib.Core.Bool.{Bool, true, false}
-use Prim.Native.Nat.{ℕ, _*_, _%_, _^_, _<_, _≤_}
+use Prim.Native.Nat.{ℕ, _*_, _%_, _^_, _<_}
 use native.Mathlib.Omega.{arith}
-use lib.Dec.{eqb, leb}
-use borrow.Author.Tests.{leb-true}
+use lib.Dec.{eqb}
 use Rattle.laws.specs.Choice.{choose}
 use Rattle.laws.proofs.Range.{values, agree}
 use Rattle.fields.specs.Halfwords.{bit}
@@ -26,7 +25,3 @@ code-lt l imm6 = go (eqb l 0) (eqb (bit 5 imm6) 1) (eqb (bit 4 imm6) 1)
 pub shifted : (k : ℕ) → k < 4 → 8 * 2 ^ k % 256 ≡ bitsAt k
 unfolding values
 shifted = agree (λ (k : ℕ). 8 * 2 ^ k % 256) bitsAt 4 refl
-
-pub bits-le : (k : ℕ) → k < 4 → bitsAt k ≤ 64
-unfolding values
-bits-le k h = leb-true (bitsAt k) 64 (agree (λ (k : ℕ). leb (bitsAt k) 64) (λ (k : ℕ). true) 4 refl k h)

@@ -38,7 +38,7 @@ pub fn difference(w: u32, x: u64, y: u64) -> u64
 }
 
 // The low 64 bits of the product, from the products of halves of 32 bits.
-fn product(x: u64, y: u64) -> u64
+fn product64(x: u64, y: u64) -> u64
     ensures { λ r. ⌜ r ≡ (x * y) % 2 ^ 64 ⌝ }
 {
     let a = x / 0x1_0000_0000;
@@ -50,11 +50,11 @@ fn product(x: u64, y: u64) -> u64
 }
 
 // x * y modulo 2^w.
-pub fn multiplied(w: u32, x: u64, y: u64) -> u64
+pub fn product(w: u32, x: u64, y: u64) -> u64
     requires { ⌜ (0 < w) × (w ≤ 64) ⌝ }
     ensures { λ r. ⌜ r ≡ (x * y) % 2 ^ w ⌝ }
 {
-    cut(w, product(x, y))
+    cut(w, product64(x, y))
 }
 
 // d + x * y modulo 2^w.
@@ -62,7 +62,7 @@ pub fn product_added(w: u32, d: u64, x: u64, y: u64) -> u64
     requires { ⌜ (0 < w) × (w ≤ 64) ⌝ }
     ensures { λ r. ⌜ r ≡ (d + x * y) % 2 ^ w ⌝ }
 {
-    sum(w, d, product(x, y))
+    sum(w, d, product64(x, y))
 }
 
 // d - x * y modulo 2^w.
@@ -70,7 +70,7 @@ pub fn product_taken(w: u32, d: u64, x: u64, y: u64) -> u64
     requires { ⌜ (0 < w) × (w ≤ 64) ⌝ }
     ensures { λ r. ⌜ r ≡ modulo w (pos d -ℤ pos (x * y)) ⌝ }
 {
-    difference(w, d, product(x, y))
+    difference(w, d, product64(x, y))
 }
 
 // x * 2^k modulo 2^w.

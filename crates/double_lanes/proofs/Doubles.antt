@@ -13,7 +13,7 @@ use Rattle.laws.proofs.Signed.{modulo-lt, modulo-pos}
 use Rattle.insn.specs.declared.Width.{Width}
 use Rattle.insn.specs.declared.Sign.{Sign}
 use Rattle.insn.specs.Widths.{sizeOf, bitsOf}
-use Rattle.insn.proofs.Sizes.{small, lanes}
+use Rattle.insn.proofs.Sizes.{size-within, lanes}
 use Rattle.lanes.specs.Promises.{laneAt}
 use Rattle.lanes.proofs.Lanewise.{halves, lanes-lt, same}
 use Rattle.arithmetic.specs.Whole.{readAs}
@@ -90,7 +90,7 @@ pub whole-halves : (op : DoubleOp) (w : Width) (a b c d e g : ℕ) → bitsOf w 
     ≡ halfOf op w a c e + 2 ^ laneBits (q .d) 32 * halfOf op w b d g
 unfolding doubleLanes doubleOf halfOf
 whole-halves op w a b c d e g short =
-    let l = lanes (sizeOf w) 2 (small (sizeOf w) 2 short) in
+    let l = lanes (sizeOf w) 2 (size-within (sizeOf w) 2 short) in
     let v = bitsOf w in
     let k = 2 ^ (2 - sizeOf w) in
     let q = lengthsOf op in

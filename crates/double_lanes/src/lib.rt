@@ -2,7 +2,7 @@
 use arithmetic::arith::cut;
 use arithmetic::arith::difference;
 use arithmetic::arith::left;
-use arithmetic::arith::multiplied;
+use arithmetic::arith::product;
 use arithmetic::arith::product_added;
 use arithmetic::arith::product_taken;
 use arithmetic::arith::sum;
@@ -88,7 +88,7 @@ fn long_lane(op: LongOp, v: u32, d: u64, x: u64, y: u64) -> u64
     match op {
         LongOp::Add => sum(v, x, y),
         LongOp::Sub => difference(v, x, y),
-        LongOp::Mul => multiplied(v, x, y),
+        LongOp::Mul => product(v, x, y),
         LongOp::Mla => product_added(v, d, x, y),
         LongOp::Mls => product_taken(v, d, x, y),
         LongOp::Mov => cut(v, x),

@@ -3,7 +3,7 @@
 use mathlib.Core.Path.{_≡_, refl, sym, _∙_, ap}
 use mathlib.Core.Bool.{Bool, true, false}
 use Prim.Native.Nat.{ℕ, suc, _+_, _-_, _*_, _/_, _^_, _≤_, _<_}
-use native.Mathlib.Nat.{mul-add, mul-assoc, mul-div-cancel-left}
+use native.Mathlib.Nat.{mul-add, mul-assoc, mul-div-cancel-left, mul-le-mul-left}
 use native.Mathlib.Omega.{arith}
 use lib.Dec.{ltb, lit≤}
 use lib.Pow.{pow-pos, pow-mono, pow-add}
@@ -22,12 +22,15 @@ size-le B64 = lit≤ tt
 pub bits-pos : (s : ℕ) → 0 < bitsAt s
 bits-pos s = omega (arith, pow-pos s)
 
+pub bits-mono : {s t : ℕ} → s ≤ t → bitsAt s ≤ bitsAt t
+bits-mono h = mul-le-mul-left 8 (pow-mono h)
+
 pub bits-le : (w : Width) → bitsOf w ≤ 64
-bits-le w = let p : 2 ^ sizeOf w ≤ 2 ^ 3 = pow-mono (size-le w) in omega arith
+bits-le w = bits-mono (size-le w)
 
 -- where the bits are at most those of a size, so is the size
-pub small : (s t : ℕ) → bitsAt s ≤ bitsAt t → s ≤ t
-small s t h = go (ltb t s) refl
+pub size-within : (s t : ℕ) → bitsAt s ≤ bitsAt t → s ≤ t
+size-within s t h = go (ltb t s) refl
   where
     go : (b : Bool) → ltb t s ≡ b → s ≤ t
     go true e = absurd (let p : 2 ^ suc t ≤ 2 ^ s = pow-mono (ltb-true t s e) in let q = pow-pos t in let z : ⊥ = omega (arith, pow-add 2 1 t) in z)

@@ -60,7 +60,7 @@ module _ (f : ℕ → ℕ → ℕ → ℕ) (wd wn wm : ℕ) where
         add-assoc,
       )
 
-  -- k lanes below k lanes, which are z bits of each operand
+  -- k lanes below k lanes, which are z, zn and zm bits of the operands
   pub halves : (k z zn zm a b c d e g : ℕ) → wd * k ≡ z → wn * k ≡ zn → wm * k ≡ zm → a < 2 ^ z → c < 2 ^ zn → e < 2 ^ zm
       → lanewise f wd wn wm (k + k) (a + 2 ^ z * b) (c + 2 ^ zn * d) (e + 2 ^ zm * g) ≡ lanewise f wd wn wm k a c e + 2 ^ z * lanewise f wd wn wm k b d g
   halves k z zn zm a b c d e g p q r ha hc he = rw (← p, ← q, ← r) (split k k a b c d e g (rw (← p) at ha) (rw (← q) at hc) (rw (← r) at he))

@@ -2,8 +2,8 @@
 use arithmetic::arith::cut;
 use arithmetic::arith::difference;
 use arithmetic::arith::left;
-use arithmetic::arith::multiplied;
 use arithmetic::arith::ones_if;
+use arithmetic::arith::product;
 use arithmetic::arith::product_added;
 use arithmetic::arith::product_taken;
 use arithmetic::arith::sum;
@@ -43,7 +43,7 @@ fn lane(op: LaneOp, w: u32, d: u64, n: u64, m: u64) -> u64
     match op {
         LaneOp::Add => sum(w, n, m),
         LaneOp::Sub => difference(w, n, m),
-        LaneOp::Mul => multiplied(w, n, m),
+        LaneOp::Mul => product(w, n, m),
         LaneOp::Mla => product_added(w, d, n, m),
         LaneOp::Mls => product_taken(w, d, n, m),
         LaneOp::Max(s) => greatest(s, w, n, m),

@@ -1,5 +1,3 @@
-pub mod Constants
 pub mod Held
 pub mod Promises
-pub mod Readings
 pub mod Steps

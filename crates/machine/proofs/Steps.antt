@@ -173,11 +173,11 @@ module _ (op : DoubleOp) (w : Width) (r : Numbers) (file : File) (small : bitsOf
 
   -- so that these stores are its effect
   module _ (low high : ℕ) (el : low ≡ after 0) (eh : high ≡ after 1) where
-    pub long-stored : l .d ≡ true → set (set file (r .d) low) (r .d + 1) high ≡ effect (double op w r) file
-    long-stored q = rw (el, eh) (sym (unlike-halves ∙ ap (λ (q : Bool). writeHalves q file (r .d) (after 0) (after 1)) q))
+    pub quad-target-stored : l .d ≡ true → set (set file (r .d) low) (r .d + 1) high ≡ effect (double op w r) file
+    quad-target-stored q = rw (el, eh) (sym (unlike-halves ∙ ap (λ (q : Bool). writeHalves q file (r .d) (after 0) (after 1)) q))
 
-    pub narrow-stored : l .d ≡ false → set file (r .d) (low + high * 2 ^ 32) ≡ effect (double op w r) file
-    narrow-stored q =
+    pub word-target-stored : l .d ≡ false → set file (r .d) (low + high * 2 ^ 32) ≡ effect (double op w r) file
+    word-target-stored q =
         rw (mul-comm high, el, eh) (sym (unlike-halves ∙ ap (λ (q : Bool). writeHalves q file (r .d) (after 0) (after 1)) q))
 
 -- an act keeps the file good

@@ -2,5 +2,4 @@ pub mod File
 pub mod Halves
 pub mod Step
 pub mod Answers
-pub mod Constants
 pub mod Promises

@@ -1,4 +1,4 @@
--- Promises beyond the contracts; proofs/Promises.antt proves each under its name, and proofs/Readings.antt the last.
+-- Promises beyond the contracts; proofs/Promises.antt proves each under its name.
 -- Assumes nothing.
 use mathlib.Core.Bool.{Bool, true, false}
 use mathlib.Core.Logic.{_≢_}
@@ -13,11 +13,9 @@ use Rattle.insn.specs.declared.Width.{Width}
 use Rattle.insn.specs.Widths.{bitsOf}
 use Rattle.names.specs.Names.{nameOf}
 use Rattle.fields.specs.Registers.{bits, vecBits}
-use Rattle.decode.specs.Reading.{reading}
 use Rattle.forms.specs.declared.Direction.the-variants.{Long}
 use Rattle.forms.specs.declared.Form.the-variants.{Shift, Extend}
 use Rattle.forms.specs.Forms.{formOf}
-use Rattle.forms.specs.Promises.{listed}
 use Rattle.operations.specs.declared.Operation.{Operation}
 use Rattle.machine.specs.declared.Outcome.{Outcome}
 use Rattle.machine.specs.Answers.{outcomeAnswer}
@@ -26,7 +24,7 @@ use Rattle.double_lanes.specs.Double.{lengthsOf}
 use Rattle.machine.specs.File.{File, Good, readD}
 use Rattle.machine.specs.Halves.{writeHalves, halfAfter}
 use Rattle.meanings.specs.declared.Numbers.{Numbers}
-use Rattle.meanings.specs.Meaning.{Act, act, double, registers, meaningOf}
+use Rattle.meanings.specs.Meaning.{act, double, registers}
 use Rattle.operations.specs.Operations.{Sized}
 use Rattle.machine.specs.Step.{effect, stepInsn}
 
@@ -70,11 +68,3 @@ UnlikeHalves =
 -- an answer says which case it is
 abbrev pub OutcomesApart : Type 0
 OutcomesApart = (x y : Outcome) (f g : File) → outcomeAnswer x f ≡ outcomeAnswer y g → x ≡ y
-
--- every pair that is read as a listed name has a meaning, so that 10 is for the other names alone
-pub record Meant (i : Insn) : Type 0 where
-  pub does : Act
-  pub meant : meaningOf i ≡ accepted does
-
-abbrev pub ReadMeant : Type 0
-ReadMeant = (hw1 hw2 address : ℕ) (i : Insn) → reading hw1 hw2 address ≡ accepted i → listed (i .mnemonic) ≡ true → Meant i

@@ -88,27 +88,27 @@ module _ (P : Answer Act → Type 0) (stop : (n : ℕ) → P (refused n)) where
 
     in-form : (f : Form) (b c : Operand) → forms.formTo32 f ≡ true → P (meaningIn f a b c)
     unfolding meaningIn
-    in-form (form.Lanes op w) b c n = each (Lanes op w) b c tt
-    in-form (form.Bits op) b c n = each (Bitwise op) b c tt
-    in-form form.Copy b c n = each (Bitwise Mov) b b tt
-    in-form (form.Shift way w) b c n = go (wholePattern c)
+    in-form (form.Lanes op w) b c h = each (Lanes op w) b c tt
+    in-form (form.Bits op) b c h = each (Bitwise op) b c tt
+    in-form form.Copy b c h = each (Bitwise Mov) b b tt
+    in-form (form.Shift way w) b c h = go (wholePattern c)
       where
         go : (x : Answer ℕ) → P (andThen x (λ k. choose (leb k 64) (shifting way w k a b) (refused 10)))
-        go (accepted k) = pick (leb k 64) (shift-by way w k b n)
+        go (accepted k) = pick (leb k 64) (shift-by way w k b h)
         go (refused m) = stop m
-    in-form (form.Double op w) b c n = every op w b c n
-    in-form (form.Extend s w) b c n = every (Long long.Mov s) w b b n
-    in-form (form.Number op w) b c n = go (wholePattern b)
+    in-form (form.Double op w) b c h = every op w b c h
+    in-form (form.Extend s w) b c h = every (Long long.Mov s) w b b h
+    in-form (form.Number op w) b c h = go (wholePattern b)
       where
         go : (x : Answer ℕ) → P (andThen x (λ p. on (Constant op (repeated w p)) a a a))
         go (accepted p) = each (Constant op (repeated w p)) a a (repeated-lt w p)
         go (refused n) = stop n
-    in-form form.Float b c n = go (floatPattern b) (float-lt b)
+    in-form form.Float b c h = go (floatPattern b) (float-lt b)
       where
         go : (x : Answer ℕ) → ((p : ℕ) → x ≡ accepted p → p < 2 ^ 64) → P (andThen x (λ p. on (Constant constant.Mov p) a a a))
         go (accepted p) h = each (Constant constant.Mov p) a a (h p refl)
         go (refused n) h = stop n
-    in-form form.Nothing b c n = stop 10
+    in-form form.Nothing b c h = stop 10
 
   pub any-meaning : (i : Insn) → ((op : Operation) (b c : Operand) → Sized op → P (on op (i .first) b c))
       → ((op : DoubleOp) (w : Width) (b c : Operand) → leb (bitsOf w) 32 ≡ true → P (onUnlike op w (i .first) b c)) → P (meaningOf i)

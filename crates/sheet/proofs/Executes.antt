@@ -110,7 +110,7 @@ shift-executes {q} {x} {y} {d} {n} {name} {class} {number} {column} {cell} {way}
           ∙ rw (known .back, means .formed, modulo-pos 64 k (omega arith), le-leb k 64 h, meant, acts op ix iy iy);
     }
 
--- an element's bits are among the 64 of a whole number
+-- a whole number's 64 bits are repeated as it is
 repeated-whole : (w : Width) (v : ℕ) → repeated w (modulo 64 (pos v)) ≡ repeated w v
 unfolding repeated modulo
 repeated-whole w v = ap (λ (p : ℕ). copies (64 / bitsOf w) (bitsOf w) p) (cut64 v (bitsOf w) (bits-le w))

@@ -45,7 +45,7 @@ lane-spec =
     (λ c κs. search needs)
     (λ c. rw (c .before .enum-told .given .1) (c .sum .ensures))
     (λ c. rw (c .before .enum-told2 .given .1) (c .difference .ensures))
-    (λ c. rw (c .before .enum-told3 .given .1) (c .multiplied .ensures))
+    (λ c. rw (c .before .enum-told3 .given .1) (c .product .ensures))
     (λ c. rw (c .before .enum-told4 .given .1) (c .product-added .ensures))
     (λ c. rw (c .before .enum-told5 .given .1) (c .product-taken .ensures))
     (λ c. rw (c .before .before .op .given .1) (c .greatest .ensures))

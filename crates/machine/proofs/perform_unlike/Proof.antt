@@ -11,7 +11,7 @@ use Rattle.tables.specs.declared.lengths.Lengths.{Lengths}
 use Rattle.double_lanes.specs.Double.{lengthsOf, laneBits}
 use Rattle.double_lanes.proofs.Promises.{halfBelow}
 use Rattle.machine.proofs.Held.{file-good}
-use Rattle.machine.proofs.Steps.{long-stored, narrow-stored}
+use Rattle.machine.proofs.Steps.{quad-target-stored, word-target-stored}
 use Rattle.machine.proofs.perform_unlike.Statement.{statement}
 use Rattle.machine.proofs.perform_unlike.Tie as tie
 
@@ -36,7 +36,7 @@ returns c =
     let b = c .before .before .before in
     let s = b .before .before .before .before in
     let a = s .args in
-    long-stored (a .op) (a .w) (a .r) (a .t1) (s .pre .1) (file-good (a .t1) _ (s .good .0)) _ _ (b .half-after .ensures) (c .half-after2 .ensures)
+    quad-target-stored (a .op) (a .w) (a .r) (a .t1) (s .pre .1) (file-good (a .t1) _ (s .good .0)) _ _ (b .half-after .ensures) (c .half-after2 .ensures)
     (target-is b true (c .before .before .if1 .taken))
 
 returns-2 : tie.Need-returns-2
@@ -44,7 +44,7 @@ returns-2 c =
     let b = c .before .before .before in
     let s = b .before .before .before .before in
     let a = s .args in
-    narrow-stored (a .op) (a .w) (a .r) (a .t1) (s .pre .1) (file-good (a .t1) _ (s .good .0)) _ _ (b .half-after .ensures) (c .half-after3 .ensures)
+    word-target-stored (a .op) (a .w) (a .r) (a .t1) (s .pre .1) (file-good (a .t1) _ (s .good .0)) _ _ (b .half-after .ensures) (c .half-after3 .ensures)
     (target-is b false (c .before .before .if1 .left))
 
 pub perform-unlike-spec : {M : Type 1} → statement M

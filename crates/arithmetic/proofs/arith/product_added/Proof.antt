@@ -15,4 +15,4 @@ product-added-spec =
     (λ c κs. search needs)
     (λ c κs. search needs)
     (λ c. let a = c .before .before .args in
-    c .sum .ensures ∙ ap (λ (p : ℕ). (a .d + p) % 2 ^ a .w) (c .before .product .ensures) ∙ add-cut64 (a .d) (a .x * a .y) (a .w) (omega arith)))
+    c .sum .ensures ∙ ap (λ (p : ℕ). (a .d + p) % 2 ^ a .w) (c .before .product64 .ensures) ∙ add-cut64 (a .d) (a .x * a .y) (a .w) (omega arith)))

@@ -17,4 +17,4 @@ product-taken-spec =
     (λ c κs. search needs)
     (λ c κs. search needs)
     (λ c. let a = c .before .before .args in
-    c .difference .ensures ∙ ap (λ (p : ℕ). modulo (a .w) (pos (a .d) -ℤ pos p)) (c .before .product .ensures) ∙ minus-cut64 (a .w) (a .d) (a .x * a .y) (omega arith)))
+    c .difference .ensures ∙ ap (λ (p : ℕ). modulo (a .w) (pos (a .d) -ℤ pos p)) (c .before .product64 .ensures) ∙ minus-cut64 (a .w) (a .d) (a .x * a .y) (omega arith)))

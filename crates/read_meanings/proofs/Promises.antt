@@ -62,8 +62,8 @@ use Rattle.forms.specs.Promises.{hasForm, listed}
 use Rattle.forms.proofs.Promises.{listedForm}
 use Rattle.meanings.specs.Meaning.{Act, act, double, registers, numbers, sameLengths, on, wholePattern, shifting, meaningIn, meaningOf}
 use Rattle.meanings.proofs.Actions.{on-alike, on-lengths, same-lengths}
-use Rattle.machine.specs.Promises.{Meant, ReadMeant}
-use Rattle.machine.proofs.Constants.{constantExpands}
+use Rattle.read_meanings.specs.Promises.{Meant, ReadMeant}
+use Rattle.read_meanings.proofs.Constants.{constantExpands}
 use Rattle.readings.proofs.Parts.{Operands, TwoOperands, operands, two-operands}
 use Rattle.laws.proofs.Tests.{passed, both-true}
 use Rattle.tables.specs.Lengths.{lengths, shapeLengths, classLengths}

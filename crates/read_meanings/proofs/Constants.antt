@@ -38,7 +38,7 @@ use Rattle.operations.specs.declared.ConstantOp.the-variants.{Mov, Mvn, Orr, Bi
 use Rattle.operations.specs.declared.Operation.the-variants.{Constant}
 use Rattle.forms.specs.declared.Form.{Form}
 use Rattle.forms.specs.declared.Form.the-variants as form
-use Rattle.machine.specs.Constants.{Expands, ConstantExpands}
+use Rattle.read_meanings.specs.Constants.{Expands, ConstantExpands}
 use Rattle.forms.specs.Forms.{groups, namedForms, formOf}
 use Rattle.meanings.specs.Meaning.{wholePattern, floatPattern, repeated, meaningIn, meaningOf}
 use Rattle.meanings.proofs.Actions.{on-alike}

@@ -1,0 +1,1 @@
+// What pairs that are read mean, promises about reading and meanings; there is no code here.
