@@ -1,3 +1,1 @@
-pub mod Held
 pub mod Promises
-pub mod Steps

@@ -23,14 +23,15 @@ use Rattle.tables.specs.declared.lengths.Lengths.{Lengths}
 use Rattle.tables.specs.Lengths.{lengths}
 use Rattle.meanings.specs.declared.Numbers.{Numbers}
 use Rattle.machine.specs.declared.Outcome.the-variants.{Done, Refused as Stopped}
-use Rattle.machine.specs.File.{File, Good, readD}
+use Rattle.effects.specs.File.{File, Good, readD}
 use Rattle.forms.specs.Forms.{groups, namedForms, formOf}
 use Rattle.meanings.specs.Meaning.{Act, act, double, registers, numbers, lengthsIn, numbersIn, Trio, trio, gathered, sameLengths, acting, doubling, wholePattern, meaningIn, meaningOf}
 use Rattle.operations.specs.Operations.{resultOf}
-use Rattle.machine.specs.Step.{effect, stepBy, stepInsn}
-use Rattle.machine.specs.Promises.{FileKept, OnlyTarget, CopyAlias, LongMoveAlias, QuadHalves, UnlikeHalves, OutcomesApart}
+use Rattle.effects.specs.Effect.{effect}
+use Rattle.machine.specs.Step.{stepBy, stepInsn}
+use Rattle.machine.specs.Promises.{FileKept, OnlyTarget, CopyAlias, LongMoveAlias, OutcomesApart}
 use Rattle.meanings.proofs.Actions.{Fits, meant}
-use Rattle.machine.proofs.Steps.{effect-good, effect-other, quad-halves, unlike-halves}
+use Rattle.effects.proofs.Effects.{effect-good, effect-other}
 
 -- a step that was taken is an act's effect
 taken : (i : Insn) (file after : File) (P : File → Type 0) → ((x : Act) → Fits (i .first) x → P (effect x file)) → stepInsn i file ≡ accepted after → P after
@@ -106,12 +107,6 @@ pub longMoveAlias : LongMoveAlias
 unfolding modulo wholePattern meaningOf meaningIn
 longMoveAlias i j file s w a b c d e f g =
     rw (a, b, c, d, e, f, g) (long-moved file s w (gathered (vecBits (i .first)) (vecBits (i .second)) (vecBits (i .second))))
-
-pub quadHalves : QuadHalves
-quadHalves op t a b file s g = quad-halves op t a b file s g
-
-pub unlikeHalves : UnlikeHalves
-unlikeHalves op w r file small g = unlike-halves op w r file small g
 
 pub outcomesApart : OutcomesApart
 outcomesApart Done Done f g e = refl

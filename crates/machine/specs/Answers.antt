@@ -5,7 +5,7 @@ use Rattle.insn.specs.Refusals.{number}
 use Rattle.machine.specs.declared.Outcome.{Outcome}
 use Rattle.machine.specs.declared.Outcome.the-variants.{Done, Refused as Stopped}
 use Rattle.machine.specs.declared.Stepped.{Stepped}
-use Rattle.machine.specs.File.{File}
+use Rattle.effects.specs.File.{File}
 
 abbrev pub outcomeAnswer : Outcome → File → Answer File
 outcomeAnswer Done file = accepted file

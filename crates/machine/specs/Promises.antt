@@ -1,32 +1,24 @@
 -- Promises beyond the contracts; proofs/Promises.antt proves each under its name.
 -- Assumes nothing.
-use mathlib.Core.Bool.{Bool, true, false}
+use mathlib.Core.Bool.{Bool, true}
 use mathlib.Core.Logic.{_≢_}
 use mathlib.Core.Path.{_≡_}
-use Prim.Native.Nat.{ℕ, _+_, _*_, _≤_}
+use Prim.Native.Nat.{ℕ, _+_}
 use lib.IntN.{pos}
 use Rattle.laws.specs.Answer.{accepted}
 use Rattle.insn.specs.declared.Insn.{Insn}
 use Rattle.insn.specs.declared.Operand.the-variants.{Imm}
 use Rattle.insn.specs.declared.Sign.{Sign}
 use Rattle.insn.specs.declared.Width.{Width}
-use Rattle.insn.specs.Widths.{bitsOf}
 use Rattle.names.specs.Names.{nameOf}
 use Rattle.fields.specs.Registers.{bits, vecBits}
 use Rattle.forms.specs.declared.Direction.the-variants.{Long}
 use Rattle.forms.specs.declared.Form.the-variants.{Shift, Extend}
 use Rattle.forms.specs.Forms.{formOf}
-use Rattle.operations.specs.declared.Operation.{Operation}
 use Rattle.machine.specs.declared.Outcome.{Outcome}
 use Rattle.machine.specs.Answers.{outcomeAnswer}
-use Rattle.double_lanes.specs.declared.DoubleOp.{DoubleOp}
-use Rattle.double_lanes.specs.Double.{lengthsOf}
-use Rattle.machine.specs.File.{File, Good, readD}
-use Rattle.machine.specs.Halves.{writeHalves, halfAfter}
-use Rattle.meanings.specs.declared.Numbers.{Numbers}
-use Rattle.meanings.specs.Meaning.{act, double, registers}
-use Rattle.operations.specs.Operations.{Sized}
-use Rattle.machine.specs.Step.{effect, stepInsn}
+use Rattle.effects.specs.File.{File, Good, readD}
+use Rattle.machine.specs.Step.{stepInsn}
 
 -- a step keeps the file: 32 numbers of 64 bits
 abbrev pub FileKept : Type 0
@@ -51,19 +43,6 @@ LongMoveAlias =
     (i j : Insn) (file : File) (s : Sign) (w : Width) → formOf (nameOf (i .mnemonic)) ≡ Shift (Long s) w → i .count ≡ 3 → i .third ≡ Imm (pos 0)
     → formOf (nameOf (j .mnemonic)) ≡ Extend s w → j .count ≡ 2 → j .first ≡ i .first → j .second ≡ i .second
     → stepInsn i file ≡ stepInsn j file
-
--- on quadwords an operation is that on their low doublewords and that on their high ones
-abbrev pub QuadHalves : Type 0
-QuadHalves =
-    (op : Operation) (t a b : ℕ) (file : File) → Sized op → Good file
-    → effect (act op (registers true (2 * t) (2 * a) (2 * b))) file
-    ≡ effect (act op (registers false (2 * t + 1) (2 * a + 1) (2 * b + 1))) (effect (act op (registers false (2 * t) (2 * a) (2 * b))) file)
-
--- on registers of unlike length it is that on their low halves and that on their high ones, all read before either is written
-abbrev pub UnlikeHalves : Type 0
-UnlikeHalves =
-    (op : DoubleOp) (w : Width) (r : Numbers) (file : File) → bitsOf w ≤ 32 → Good file
-    → effect (double op w r) file ≡ writeHalves (lengthsOf op .d) file (r .d) (halfAfter op w r file 0) (halfAfter op w r file 1)
 
 -- an answer says which case it is
 abbrev pub OutcomesApart : Type 0

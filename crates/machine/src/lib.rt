@@ -1,24 +1,13 @@
 // The register machine: one instruction on a file of 32 doublewords.
 ghost use mathlib.Core.Path.{_≡_};
-ghost use Prim.Native.Nat.{_<_, _≤_};
-ghost use Rattle.double_lanes.specs.Double.{lengthsOf};
-ghost use Rattle.insn.specs.Widths.{bitsOf};
 ghost use Rattle.machine.specs.Answers.{steppedAnswer};
-ghost use Rattle.machine.specs.Halves.{readHalf, halfAfter};
-ghost use Rattle.machine.specs.Step.{effect, stepInsn, stepPair, fileAfter};
-ghost use Rattle.meanings.specs.Meaning.{act, double};
-ghost use Rattle.meanings.specs.Own.{InFile, Within};
-ghost use Rattle.tables.specs.Lengths.{lengths};
-use double_lanes::DoubleOp;
-use double_lanes::lengths_of;
+ghost use Rattle.machine.specs.Step.{stepInsn, stepPair, fileAfter};
+use effects::perform;
+use effects::perform_unlike;
 use insn::Edition;
 use insn::Insn;
 use insn::Refusal;
-use insn::Width;
 use meanings::Meaning;
-use meanings::Numbers;
-use meanings::Registers;
-use operations::Operation;
 use readings::Reading;
 
 // How a step ended.
@@ -31,65 +20,6 @@ pub enum Outcome {
 pub struct Stepped {
     pub outcome: Outcome,
     pub file: [u64; 32],
-}
-
-// The file after an operation on registers of one length, by doublewords: a quadword is two. The sources are read from
-// the file before it.
-fn perform(file: [u64; 32], op: Operation, r: Registers) -> [u64; 32]
-    requires { ⌜ Within (lengths (r .quad) (r .quad) (r .quad)) (r .d) (r .n) (r .m) ⌝ }
-    ensures { λ after. ⌜ after ≡ effect (act op r) file ⌝ }
-{
-    let d = r.d as usize;
-    let n = r.n as usize;
-    let m = r.m as usize;
-    let mut after = file;
-    after[d] = operations::value(op, file[d], file[n], file[m]);
-    if r.quad {
-        after[d + 1] = operations::value(op, file[d + 1], file[n + 1], file[m + 1]);
-    }
-    after
-}
-
-// The low half of a register for h = 0, the high one for 1: a doubleword of a quadword, 32 bits of a doubleword.
-fn half_of(file: &[u64; 32], quad: bool, k: usize, h: usize) -> u64
-    requires { ⌜ InFile quad k × (h < 2) ⌝ }
-    ensures { λ r. ⌜ r ≡ readHalf quad (now (file .entry)) k h ⌝ }
-{
-    if quad {
-        file[k + h]
-    } else {
-        (file[k] >> (32 * h)) % 0x1_0000_0000
-    }
-}
-
-// What an operation on registers of unlike length leaves in a half of its target.
-fn half_after(file: &[u64; 32], op: DoubleOp, w: Width, r: Numbers, h: usize) -> u64
-    requires { ⌜ Within (lengthsOf op) (r .d) (r .n) (r .m) × (h < 2) ⌝ }
-    ensures { λ v. ⌜ v ≡ halfAfter op w r (now (file .entry)) h ⌝ }
-{
-    let l = lengths_of(op);
-    let d = half_of(file, l.d, r.d as usize, h);
-    let n = half_of(file, l.n, r.n as usize, h);
-    let m = half_of(file, l.m, r.m as usize, h);
-    double_lanes::half(op, w, d, n, m)
-}
-
-// The file after an operation on registers of unlike length, by halves. The sources are read from the file before it.
-fn perform_unlike(file: [u64; 32], op: DoubleOp, w: Width, r: Numbers) -> [u64; 32]
-    requires { ⌜ Within (lengthsOf op) (r .d) (r .n) (r .m) × (bitsOf w ≤ 32) ⌝ }
-    ensures { λ after. ⌜ after ≡ effect (double op w r) file ⌝ }
-{
-    let l = lengths_of(op);
-    let d = r.d as usize;
-    let low = half_after(&file, op, w, r, 0);
-    let mut after = file;
-    if l.d {
-        after[d] = low;
-        after[d + 1] = half_after(&file, op, w, r, 1);
-    } else {
-        after[d] = low + half_after(&file, op, w, r, 1) * 0x1_0000_0000;
-    }
-    after
 }
 
 // One instruction on a file.

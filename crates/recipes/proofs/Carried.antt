@@ -9,7 +9,7 @@ use native.Mathlib.Omega.{arith}
 use lib.Dec.{T, eqb, ltb}
 use lib.IntN.{pos}
 use lib.Text.{eqt}
-use borrow.Author.Tests.{lt-ltb, ltb-true, ne-eqb}
+use borrow.Author.Tests.{lt-ltb, ne-eqb}
 use Rattle.laws.specs.Answer.{accepted}
 use Rattle.laws.specs.Choice.{choose}
 use Rattle.laws.specs.Search.{Found, at, none, firstBelow}

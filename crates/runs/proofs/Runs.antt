@@ -14,10 +14,11 @@ use Rattle.laws.proofs.Never.{never}
 use Rattle.insn.specs.declared.Insn.{Insn}
 use Rattle.decode.specs.Reading.{reading}
 use Rattle.meanings.specs.Meaning.{Act, meaningOf}
-use Rattle.machine.specs.File.{File}
-use Rattle.machine.specs.Step.{effect, stepBy, stepRead, stepPair}
+use Rattle.effects.specs.File.{File}
+use Rattle.effects.specs.Effect.{effect}
+use Rattle.machine.specs.Step.{stepBy, stepRead, stepPair}
 use Rattle.runs.specs.Run.{done, stopped, Run, atOnce, after, stepsBy, runPairs, runOf, machineSteps}
-use Rattle.machine.proofs.Steps.{effect-size}
+use Rattle.effects.proofs.Effects.{effect-size}
 use Rattle.runs.proofs.AnyRuns as any
 use Rattle.runs.proofs.AnyRuns.{Counted, counted, bounded, goes-on}
 

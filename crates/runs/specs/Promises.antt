@@ -5,7 +5,7 @@ use mathlib.Core.Path.{_≡_}
 use Prim.Native.Nat.{ℕ, _+_, _*_}
 use lib.ListN.{drop}
 use Rattle.laws.specs.Answer.{accepted}
-use Rattle.machine.specs.File.{File}
+use Rattle.effects.specs.File.{File}
 use Rattle.runs.specs.declared.Ran.{Ran}
 use Rattle.runs.specs.Answers.{ranOf}
 use Rattle.runs.specs.Run.{stopped, after, runOf, machineSteps}

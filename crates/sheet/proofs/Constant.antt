@@ -19,11 +19,11 @@ use Rattle.insn.specs.declared.Width.the-variants.{B32, B64}
 use Rattle.operations.specs.declared.BitOp.the-variants.{Bif}
 use Rattle.operations.specs.declared.ConstantOp.the-variants.{Mov, Orr}
 use Rattle.operations.specs.declared.Operation.the-variants.{Bits, Constant}
-use Rattle.machine.specs.File.{File}
+use Rattle.effects.specs.File.{File}
 use Rattle.meanings.specs.Meaning.{Act, act, registers, repeated, meaningIn}
 use Rattle.operations.specs.Operations.{bitwise, resultOf}
-use Rattle.machine.specs.Step.{effect}
-use Rattle.machine.proofs.Steps.{word-effect}
+use Rattle.effects.specs.Effect.{effect}
+use Rattle.effects.proofs.Effects.{word-effect}
 use Rattle.meanings.proofs.Actions.{repeated-lt}
 use Rattle.steps.specs.Meaning.{rowsOf}
 use Rattle.recipes.specs.declared.Recipe.{Recipe}

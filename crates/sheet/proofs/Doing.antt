@@ -5,12 +5,12 @@ use mathlib.Core.List.{List, [], _∷_, _++_}
 use lib.ListN.{length}
 use Rattle.laws.specs.Answer.{accepted}
 use Rattle.insn.specs.declared.Insn.{Insn}
-use Rattle.machine.specs.File.{File, Good}
+use Rattle.effects.specs.File.{File, Good}
 use Rattle.meanings.specs.Meaning.{Act}
 use Rattle.meanings.proofs.Actions.{Sound}
 use Rattle.runs.specs.Run.{stepsBy, machineSteps}
-use Rattle.machine.specs.Step.{effect}
-use Rattle.machine.proofs.Steps.{effect-good}
+use Rattle.effects.specs.Effect.{effect}
+use Rattle.effects.proofs.Effects.{effect-good}
 use Rattle.recipes.specs.Pairs.{halfwordsOf}
 use Rattle.sheet.proofs.Executes.{Executes}
 

@@ -28,11 +28,12 @@ use Rattle.operations.specs.declared.Operation.the-variants.{Bits as Bitwise, C
 use Rattle.forms.specs.declared.Direction.{Direction}
 use Rattle.forms.specs.declared.Form.{Form}
 use Rattle.forms.specs.declared.Form.the-variants as form
-use Rattle.machine.specs.File.{File}
+use Rattle.effects.specs.File.{File}
 use Rattle.forms.specs.Forms.{formOf}
 use Rattle.meanings.specs.Meaning.{Act, act, registers, on, wholePattern, repeated, shifting, countOf, meaningIn, meaningOf}
 use Rattle.meanings.proofs.Actions.{on-alike}
-use Rattle.machine.specs.Step.{effect, stepBy, stepPair}
+use Rattle.effects.specs.Effect.{effect}
+use Rattle.machine.specs.Step.{stepBy, stepPair}
 use Rattle.recipes.specs.Pairs.{twoOf, threeOf}
 use Rattle.recipes.proofs.Names.{Known, Classed, copy-known}
 use Rattle.recipes.proofs.Writes.{Writes, Is, quad-is, double-is, Alike, three-writes, copy-writes, shift-writes, number-writes}

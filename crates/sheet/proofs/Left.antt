@@ -28,11 +28,11 @@ use Rattle.lanes.proofs.Promises.{readBack}
 use Rattle.operations.specs.declared.BitOp.the-variants.{And, Orr, Eor, Orn, Mov, Bsl}
 use Rattle.operations.specs.declared.ConstantOp.the-variants as constant
 use Rattle.operations.specs.declared.Operation.the-variants.{Lanes, Bits, Constant}
-use Rattle.machine.specs.File.{File, Good}
+use Rattle.effects.specs.File.{File, Good}
 use Rattle.meanings.specs.Meaning.{act, registers, repeated}
 use Rattle.operations.specs.Operations.{resultOf}
-use Rattle.machine.specs.Step.{effect}
-use Rattle.machine.proofs.Steps.{effect-size}
+use Rattle.effects.specs.Effect.{effect}
+use Rattle.effects.proofs.Effects.{effect-size}
 use Rattle.steps.specs.declared.Step.{Step}
 use Rattle.steps.specs.Meaning.{paired, rowsOf, rowAt, signOf, eachLane}
 use Rattle.steps.specs.Meaning as sheet

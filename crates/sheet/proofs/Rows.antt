@@ -10,11 +10,11 @@ use lib.Arith.{digits-lt}
 use lib.ListN.{length, getD, set, take}
 use lib.Seq.{take-set-lt, getD-take}
 use Rattle.operations.specs.declared.Operation.{Operation}
-use Rattle.machine.specs.File.{File, Good, readR}
+use Rattle.effects.specs.File.{File, Good, readR}
 use Rattle.meanings.specs.Meaning.{Act, act, registers}
 use Rattle.operations.specs.Operations.{resultOf}
-use Rattle.machine.specs.Step.{effect}
-use Rattle.machine.proofs.Steps.{quad-effect}
+use Rattle.effects.specs.Effect.{effect}
+use Rattle.effects.proofs.Effects.{quad-effect}
 use Rattle.steps.specs.Meaning.{paired, rowsOf, rowAt}
 use Rattle.sheet.proofs.Doing.{doing, doing-cons, doing-nil}
 

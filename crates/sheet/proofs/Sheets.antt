@@ -3,7 +3,7 @@
 use mathlib.Core.Path.{_≡_, _∙_, ap}
 use mathlib.Core.Bool.{true}
 use mathlib.Core.List.{List, [], _∷_, _++_}
-use Rattle.machine.specs.File.{File, Good}
+use Rattle.effects.specs.File.{File, Good}
 use Rattle.meanings.specs.Meaning.{Act}
 use Rattle.steps.specs.declared.Step.{Step}
 use Rattle.steps.specs.Meaning.{rowsOf, taken, meaning}

@@ -9,7 +9,7 @@ use lib.ListN.{length, getD, take}
 use Rattle.laws.specs.Answer as stepping
 use Rattle.laws.specs.AnswerAt.{AnswerAt, accepted, refused, refusedAt}
 use Rattle.laws.proofs.Never.{never}
-use Rattle.machine.specs.File.{File}
+use Rattle.effects.specs.File.{File}
 use Rattle.runs.specs.Run.{Run, done, runOf, machineSteps}
 use Rattle.runs.proofs.Promises.{runKept}
 use Rattle.runs.proofs.Runs.{all-run, runs-from-start}

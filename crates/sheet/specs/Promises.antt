@@ -4,7 +4,7 @@ use mathlib.Core.List.{List}
 use mathlib.Core.Path.{_≡_}
 use Prim.Native.Nat.{ℕ, _^_, _<_}
 use lib.ListN.{getD}
-use Rattle.machine.specs.File.{File}
+use Rattle.effects.specs.File.{File}
 use Rattle.translator.specs.Translation.{writtenOf}
 use Rattle.sheet.specs.declared.Evaluation.{Evaluation}
 use Rattle.sheet.specs.Answers.{evaluationAnswer}

@@ -9,7 +9,7 @@ use Rattle.double_lanes.specs.declared.DoubleOp.{DoubleOp}
 use Rattle.double_lanes.specs.Double.{lengthsOf}
 use Rattle.double_lanes.specs.Halves.{halfOf}
 use Rattle.meanings.specs.declared.Numbers.{Numbers}
-use Rattle.machine.specs.File.{File, readD, writeD}
+use Rattle.effects.specs.File.{File, readD, writeD}
 
 -- half h of a register, 0 the low and 1 the high one: a doubleword of a quadword, 32 bits of a doubleword
 abbrev pub readHalf : Bool → File → ℕ → ℕ → ℕ

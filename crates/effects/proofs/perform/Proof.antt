@@ -1,11 +1,11 @@
--- `machine::perform` meets its contract.
+-- `effects::perform` meets its contract.
 -- Assumes nothing.
 use native.Mathlib.Omega.{arith}
 use borrow.Author.Needs.{needs}
-use Rattle.machine.proofs.Held.{file-good, operation-sized}
-use Rattle.machine.proofs.Steps.{word-stored, quad-stored}
-use Rattle.machine.proofs.perform.Statement.{statement}
-use Rattle.machine.proofs.perform.Tie as tie
+use Rattle.effects.proofs.Held.{file-good, operation-sized}
+use Rattle.effects.proofs.Effects.{word-stored, quad-stored}
+use Rattle.effects.proofs.perform.Statement.{statement}
+use Rattle.effects.proofs.perform.Tie as tie
 
 returns : tie.Need-returns
 returns c =

@@ -19,12 +19,12 @@ use Rattle.double_lanes.proofs.Promises.{doubleHalves, halfBelow}
 use Rattle.operations.specs.declared.Operation.{Operation}
 use Rattle.meanings.specs.declared.Numbers.{Numbers}
 use Rattle.meanings.specs.declared.Registers.{Registers}
-use Rattle.machine.specs.File.{File, Good, readD, readR, writeR}
-use Rattle.machine.specs.Halves.{readHalf, writeHalves, halfAfter}
+use Rattle.effects.specs.File.{File, Good, readD, readR, writeR}
+use Rattle.effects.specs.Halves.{readHalf, writeHalves, halfAfter}
 use Rattle.meanings.specs.Meaning.{Act, act, double, registers, lengthsIn, numbersIn}
 use Rattle.meanings.proofs.Actions.{Sound}
 use Rattle.operations.specs.Operations.{resultOf, Sized}
-use Rattle.machine.specs.Step.{effect}
+use Rattle.effects.specs.Effect.{effect}
 use Rattle.operations.proofs.Halves.{Halves, low-half, high-half, quad, result-halves, result-lt}
 
 -- a store keeps the file good

@@ -1,4 +1,4 @@
--- `machine::perform_unlike` meets its contract.
+-- `effects::perform_unlike` meets its contract.
 -- Assumes nothing.
 use mathlib.Core.Path.{_≡_, sym, ap, _∙_}
 use mathlib.Core.Bool.{Bool, true, false}
@@ -10,10 +10,10 @@ use Rattle.laws.proofs.Never.{wrong}
 use Rattle.tables.specs.declared.lengths.Lengths.{Lengths}
 use Rattle.double_lanes.specs.Double.{lengthsOf, laneBits}
 use Rattle.double_lanes.proofs.Promises.{halfBelow}
-use Rattle.machine.proofs.Held.{file-good}
-use Rattle.machine.proofs.Steps.{quad-target-stored, word-target-stored}
-use Rattle.machine.proofs.perform_unlike.Statement.{statement}
-use Rattle.machine.proofs.perform_unlike.Tie as tie
+use Rattle.effects.proofs.Held.{file-good}
+use Rattle.effects.proofs.Effects.{quad-target-stored, word-target-stored}
+use Rattle.effects.proofs.perform_unlike.Statement.{statement}
+use Rattle.effects.proofs.perform_unlike.Tie as tie
 
 -- whether the target is a quadword
 target-is : (c : tie.After-half-after) (t : Bool) → c .before .before .before .lengths-of .result .d ≡ t → lengthsOf (c .before .before .before .before .args .op) .d ≡ t

@@ -14,7 +14,7 @@ use Rattle.operations.specs.declared.Operation.{Operation}
 use Rattle.operations.specs.declared.Operation.the-variants.{Lanes, Bits, Constant}
 use Rattle.operations.proofs.Operation.{the-type}
 use Rattle.operations.specs.Operations.{Sized}
-use Rattle.machine.specs.File.{File, Good}
+use Rattle.effects.specs.File.{File, Good}
 
 small : (file : File) (us : List Val) → shadow (each ℕ (UInt w64 .own) file us) → (k : ℕ) → getD file k 0 < 2 ^ 64
 small [] us h k = lit< tt

@@ -1,8 +1,8 @@
--- `machine::half_of` meets its contract.
+-- `effects::half_of` meets its contract.
 -- Assumes nothing.
 use native.Mathlib.Omega.{arith}
-use Rattle.machine.proofs.half_of.Statement.{statement}
-use Rattle.machine.proofs.half_of.Tie as tie
+use Rattle.effects.proofs.half_of.Statement.{statement}
+use Rattle.effects.proofs.half_of.Tie as tie
 
 pub half-of-spec : {M : Type 1} → statement M
 half-of-spec =

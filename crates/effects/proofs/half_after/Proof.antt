@@ -1,8 +1,8 @@
--- `machine::half_after` meets its contract.
+-- `effects::half_after` meets its contract.
 -- Assumes nothing.
 use borrow.Author.Needs.{needs}
-use Rattle.machine.proofs.half_after.Statement.{statement}
-use Rattle.machine.proofs.half_after.Tie as tie
+use Rattle.effects.proofs.half_after.Statement.{statement}
+use Rattle.effects.proofs.half_after.Tie as tie
 
 pub half-after-spec : {M : Type 1} → statement M
 half-after-spec =

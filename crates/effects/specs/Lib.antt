@@ -1,0 +1,4 @@
+pub mod File
+pub mod Effect
+pub mod Halves
+pub mod Promises
