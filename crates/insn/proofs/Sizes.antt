@@ -22,11 +22,11 @@ size-le B64 = lit≤ tt
 pub bits-pos : (s : ℕ) → 0 < bitsAt s
 bits-pos s = omega (arith, pow-pos s)
 
-pub bits-mono : {s t : ℕ} → s ≤ t → bitsAt s ≤ bitsAt t
-bits-mono h = mul-le-mul-left 8 (pow-mono h)
+pub at-most-64 : {s : ℕ} → s ≤ 3 → bitsAt s ≤ 64
+at-most-64 h = mul-le-mul-left 8 (pow-mono h)
 
 pub bits-le : (w : Width) → bitsOf w ≤ 64
-bits-le w = bits-mono (size-le w)
+bits-le w = at-most-64 (size-le w)
 
 -- where the bits are at most those of a size, so is the size
 pub size-within : (s t : ℕ) → bitsAt s ≤ bitsAt t → s ≤ t

@@ -17,7 +17,7 @@ use Rattle.laws.specs.Signed.{twosComplement}
 use Rattle.laws.proofs.Range.{values, agree, agree2}
 use Rattle.laws.proofs.Search.{all-fail}
 use Rattle.insn.specs.declared.Operand.the-variants.{Imm}
-use Rattle.insn.proofs.Sizes.{bits-mono}
+use Rattle.insn.proofs.Sizes.{at-most-64}
 use Rattle.immediate_tables.specs.Modimm.{modimm}
 use Rattle.tables.specs.declared.ShiftClass.the-variants.{Right, Left}
 use Rattle.fields.specs.Halfwords.{bit, field}
@@ -50,7 +50,7 @@ left-read = agree2 leftAt (λ (c k : ℕ). true) 4 64 refl
 pub left-carried : (c k : ℕ) → c < 4 → k < bitsAt c → (t : ℕ) × (amountIn Left c (Imm (pos k)) ≡ accepted t)
 unfolding amountIn
 left-carried c k hc hk =
-    let small : bitsAt c ≤ 64 = bits-mono {t = 3} (omega arith) in
+    let small = at-most-64 {s = c} (omega arith) in
     finds (λ (t : ℕ). shift.amountReads Left c (pos k) (bit 6 t) (field 5 0 t)) 128 (bitsAt c + k) (omega arith)
     (rw (lt-ltb k (bitsAt c) hk) at (left-read c k hc (omega arith)))
 
@@ -66,7 +66,7 @@ pub right-carried : (c k : ℕ) → c < 4 → 0 < k → k ≤ bitsAt c → (t : 
 unfolding amountIn
 right-carried c zero hc p hk = absurd (let b : ⊥ = omega arith in b)
 right-carried c (suc k) hc p hk =
-    let small : bitsAt c ≤ 64 = bits-mono {t = 3} (omega arith) in
+    let small = at-most-64 {s = c} (omega arith) in
     finds (λ (t : ℕ). shift.amountReads Right c (pos (suc k)) (bit 6 t) (field 5 0 t)) 128 (2 * bitsAt c - suc k) (omega arith)
     (rw (lt-ltb k (bitsAt c) hk) at (right-read c k hc (omega arith)))
 

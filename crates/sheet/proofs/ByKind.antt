@@ -30,7 +30,8 @@ use Rattle.recipes.specs.Naming.{sized, signed}
 use Rattle.recipes.specs.Pairs.{immediate, halfPairs, recipeOf, pairTable, pairsBy, twoOf, threeOf}
 use Rattle.steps.specs.Rules.{table, usesOf}
 use Rattle.recipes.proofs.Names.{Known, add-known, sub-known, mul-known, max-known, min-known, greater-known, and-known, orr-known, eor-known, orn-known, bsl-known, left-known, right-known, set-word-known, left-classed, right-classed}
-use Rattle.recipes.proofs.Carried.{bits-small, left-carried, right-carried, set-carried}
+use Rattle.insn.proofs.Sizes.{at-most-64}
+use Rattle.recipes.proofs.Carried.{left-carried, right-carried, set-carried}
 use Rattle.sheet.proofs.Constant.{halfActs, recipe-does}
 use Rattle.sheet.proofs.Doing.{Does, does-append}
 use Rattle.steps.proofs.Each.{each}
@@ -86,7 +87,7 @@ module _ (s : Step) where
   shifted p false e =
       let n = eqb-false (s .amount) 0 e in
       let h = p .amount in
-      let small = bits-small (s .width) (p .width) in
+      let small = at-most-64 {s = s .width} (omega (arith, p .width)) in
       let c = right-carried (s .width) (s .amount) (p .width) (omega arith) (omega arith) in
       (shift-executes (Lanes (Shr (signOf (s .sign)) (s .amount)) (widthAt (s .width))) (s .amount) (c .0) (reg _ (p .target)) (reg _ (p .a)) (right-known (s .sign) (s .width) (p .width)) (right-classed (s .sign) (s .width) (p .width)) (right-means (s .sign) (s .width) (p .width)) (λ q. (refl, refl)) (omega arith) (c .1) refl, (tt, tt))
 
@@ -119,7 +120,7 @@ module _ (s : Step) where
                         (number-executes 0 (c .0) q14 set-word-known set-word-means refl (c .1), (repeated-lt B32 0, (three-executes (reg _ (p .target)) q14 (reg _ (p .a)) (Bits Orn) orn-known orn-means refl refl, (tt, tt))))),
                     (
                       (λ p. let h = p .amount in
-                          let small = bits-small (s .width) (p .width) in
+                          let small = at-most-64 {s = s .width} (omega (arith, p .width)) in
                           let c = left-carried (s .width) (s .amount) (p .width) (p .amount) in
                           (shift-executes (Lanes (Shl (s .amount)) (widthAt (s .width))) (s .amount) (c .0) (reg _ (p .target)) (reg _ (p .a)) (left-known (s .width) (p .width)) (left-classed (s .width) (p .width)) (left-means (s .width) (p .width)) (λ q. (refl, refl)) (omega arith) (c .1) refl, (tt, tt))),
                       (
