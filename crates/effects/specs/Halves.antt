@@ -1,5 +1,5 @@
 -- Halves of registers, by which the code does an operation on registers of unlike length.
--- For the contracts of the machine's own functions, and for the promise UnlikeHalves; no meaning rests on them.
+-- For the contracts of the crate's own functions, and for the promise UnlikeHalves; no meaning rests on them.
 -- Assumes nothing.
 use mathlib.Core.Bool.{Bool}
 use Prim.Native.Nat.{ℕ, _+_, _*_, _/_, _%_, _^_}

@@ -1,4 +1,4 @@
--- For the contracts of the machine's own functions alone, which do an operation.
+-- For the contracts of the functions that do an operation, in effects alone.
 -- Assumes nothing.
 use mathlib.Core.Bool.{Bool, true}
 use mathlib.Core.Path.{_≡_}
