@@ -1,14 +1,14 @@
--- `forms::constant_form` meets its contract: antt computes each stretch of mnemonics.
+-- `named_forms::constant_form` meets its contract: antt computes each stretch of mnemonics.
 -- Assumes nothing.
 use mathlib.Core.Path.{refl}
 use Prim.Native.Nat.{ℕ}
 use Rattle.laws.proofs.Range.{values}
 use Rattle.insn.specs.declared.Width.the-variants.{B64}
 use Rattle.forms.specs.declared.Form.the-variants.{Number}
 use Rattle.operations.specs.declared.ConstantOp.the-variants.{Mov}
 use Rattle.forms.proofs.Numbered.{numbered, formAt, one, stretch, above}
-use Rattle.forms.proofs.constant_form.Statement.{statement}
-use Rattle.forms.proofs.constant_form.Tie as tie
+use Rattle.named_forms.proofs.constant_form.Statement.{statement}
+use Rattle.named_forms.proofs.constant_form.Tie as tie
 
 pub constant-form-spec : {M : Type 1} → statement M
 unfolding values numbered formAt

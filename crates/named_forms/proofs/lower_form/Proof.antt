@@ -1,4 +1,4 @@
--- `forms::lower_form` meets its contract: antt computes each stretch of mnemonics.
+-- `named_forms::lower_form` meets its contract: antt computes each stretch of mnemonics.
 -- Assumes nothing.
 use mathlib.Core.Path.{refl, _∙_}
 use Prim.Native.Nat.{ℕ, _-_, zero-le}
@@ -7,10 +7,10 @@ use Rattle.laws.proofs.Range.{values}
 use Rattle.lanes.specs.declared.LaneOp.the-variants.{Add, Mul, Mla, Max, Min, Cgt, Cge, Tst}
 use Rattle.insn.specs.declared.Sign.the-variants.{Signed}
 use Rattle.insn.specs.Widths.{widthAt}
 use Rattle.forms.specs.declared.Form.the-variants.{Lanes, Nothing}
 use Rattle.forms.proofs.Numbered.{numbered, formAt, one, stretch, above}
-use Rattle.forms.proofs.lower_form.Statement.{statement}
-use Rattle.forms.proofs.lower_form.Tie as tie
+use Rattle.named_forms.proofs.lower_form.Statement.{statement}
+use Rattle.named_forms.proofs.lower_form.Tie as tie
 
 pub lower-form-spec : {M : Type 1} → statement M
 unfolding values numbered formAt

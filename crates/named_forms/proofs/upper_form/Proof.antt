@@ -1,4 +1,4 @@
--- `forms::upper_form` meets its contract: antt computes each stretch of mnemonics.
+-- `named_forms::upper_form` meets its contract: antt computes each stretch of mnemonics.
 -- Assumes nothing.
 use mathlib.Core.Path.{refl, _∙_}
 use Prim.Native.Nat.{ℕ, _-_}
@@ -7,11 +7,11 @@ use Rattle.laws.proofs.Range.{values}
 use Rattle.lanes.specs.declared.LaneOp.the-variants.{Sub, Mls, Max, Min, Cgt, Cge, Ceq}
 use Rattle.insn.specs.declared.Sign.the-variants.{Unsigned}
 use Rattle.insn.specs.Widths.{widthAt}
 use Rattle.forms.specs.declared.Form.the-variants.{Lanes, Bits, Nothing}
 use Rattle.operations.specs.declared.BitOp.the-variants.{Eor}
 use Rattle.forms.proofs.Numbered.{numbered, formAt, one, stretch, above}
-use Rattle.forms.proofs.upper_form.Statement.{statement}
-use Rattle.forms.proofs.upper_form.Tie as tie
+use Rattle.named_forms.proofs.upper_form.Statement.{statement}
+use Rattle.named_forms.proofs.upper_form.Tie as tie
 
 pub upper-form-spec : {M : Type 1} → statement M
 unfolding values numbered formAt

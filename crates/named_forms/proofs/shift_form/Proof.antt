@@ -1,4 +1,4 @@
--- `forms::shift_form` meets its contract: antt computes each stretch of mnemonics.
+-- `named_forms::shift_form` meets its contract: antt computes each stretch of mnemonics.
 -- Assumes nothing.
 use mathlib.Core.Path.{refl, ap, _∙_}
 use Prim.Native.Nat.{ℕ, _-_}
@@ -6,11 +6,11 @@ use native.Mathlib.Omega.{arith}
 use Rattle.laws.proofs.Range.{values}
 use Rattle.insn.specs.declared.Sign.the-variants.{Unsigned, Signed}
 use Rattle.insn.specs.Widths.{widthAt}
 use Rattle.forms.specs.declared.Direction.the-variants as way
 use Rattle.forms.specs.declared.Form.the-variants.{Shift, Extend, Nothing}
 use Rattle.forms.proofs.Numbered.{numbered, formAt, stretch}
-use Rattle.forms.proofs.shift_form.Statement.{statement}
-use Rattle.forms.proofs.shift_form.Tie as tie
+use Rattle.named_forms.proofs.shift_form.Statement.{statement}
+use Rattle.named_forms.proofs.shift_form.Tie as tie
 
 pub shift-form-spec : {M : Type 1} → statement M
 unfolding values numbered formAt

@@ -1,11 +1,11 @@
--- `forms::form_of` meets its contract.
+-- `named_forms::form_of` meets its contract.
 -- Assumes nothing.
 use mathlib.Core.Path.{refl}
 use borrow.Author.Needs.{needs}
 use Rattle.forms.specs.declared.Form.the-variants.{Copy}
 use Rattle.forms.proofs.Numbered.{numbered, formAt, one, no-more}
-use Rattle.forms.proofs.form_of.Statement.{statement}
-use Rattle.forms.proofs.form_of.Tie as tie
+use Rattle.named_forms.proofs.form_of.Statement.{statement}
+use Rattle.named_forms.proofs.form_of.Tie as tie
 
 last : tie.Need-returns-7
 unfolding numbered formAt

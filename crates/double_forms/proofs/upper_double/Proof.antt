@@ -1,4 +1,4 @@
--- `forms::upper_double` meets its contract: antt computes each stretch of mnemonics.
+-- `double_forms::upper_double` meets its contract: antt computes each stretch of mnemonics.
 -- Assumes nothing.
 use mathlib.Core.Path.{refl, _∙_}
 use Prim.Native.Nat.{ℕ, _-_}
@@ -9,10 +9,10 @@ use Rattle.insn.specs.Widths.{widthAt}
 use Rattle.double_lanes.specs.declared.LongOp.the-variants as long
 use Rattle.double_lanes.specs.declared.WideOp.the-variants as wide
 use Rattle.double_lanes.specs.declared.DoubleOp.the-variants.{Long, Wide}
 use Rattle.forms.specs.declared.Form.the-variants.{Double, Nothing}
 use Rattle.forms.proofs.Numbered.{numbered, formAt, stretch}
-use Rattle.forms.proofs.upper_double.Statement.{statement}
-use Rattle.forms.proofs.upper_double.Tie as tie
+use Rattle.double_forms.proofs.upper_double.Statement.{statement}
+use Rattle.double_forms.proofs.upper_double.Tie as tie
 
 pub upper-double-spec : {M : Type 1} → statement M
 unfolding values numbered formAt
