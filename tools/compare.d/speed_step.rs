@@ -201,6 +201,17 @@ fn whole(w: u32, signed: bool, x: u64) -> i64 {
     if signed { (x << (64 - w)) as i64 >> (64 - w) } else { x as i64 }
 }
 
+/// The same with room for a sum of two of 64 bits.
+fn exact(lane: Lane, x: u64) -> i128 {
+    if lane.signed { whole(lane.width, true, x).into() } else { x.into() }
+}
+
+/// A number, moved to the nearer end of the range when outside it.
+fn limited(lane: Lane, z: i128) -> u64 {
+    let low = if lane.signed { -1 << (lane.width - 1) } else { 0 };
+    z.clamp(low, low + (1 << lane.width) - 1) as u64
+}
+
 fn shifted(stem: &str, lane: Lane, n: u64, k: u32) -> Option<u64> {
     let w = lane.width;
     Some(match (stem, lane.signed) {
@@ -227,6 +238,11 @@ fn lanes(stem: &str, lane: Lane, d: u64, n: u64, m: u64) -> Option<u64> {
         "vcge" => each(w, d, n, m, |_, n, m| ones(whole(n) >= whole(m))),
         "vceq" => each(w, d, n, m, |_, n, m| ones(n == m)),
         "vtst" => each(w, d, n, m, |_, n, m| ones(n & m != 0)),
+        "vqadd" => each(w, d, n, m, |_, n, m| limited(lane, exact(lane, n) + exact(lane, m))),
+        "vqsub" => each(w, d, n, m, |_, n, m| limited(lane, exact(lane, n) - exact(lane, m))),
+        "vhadd" => each(w, d, n, m, |_, n, m| ((whole(n) + whole(m)) >> 1) as u64),
+        "vrhadd" => each(w, d, n, m, |_, n, m| ((whole(n) + whole(m) + 1) >> 1) as u64),
+        "vhsub" => each(w, d, n, m, |_, n, m| ((whole(n) - whole(m)) >> 1) as u64),
         _ => return None,
     })
 }

@@ -1,5 +1,6 @@
 pub mod Modulo
 pub mod Numbers
+pub mod Order
 pub mod Signs
 pub mod Wholes
 pub mod Words

@@ -48,7 +48,7 @@ module _ (w : ℕ) where
       ap (λ (x : ℕ). x % 2 ^ w) e ∙ add-mod-right (n / 2 ^ w * 2 ^ w) (2 ^ w) ∙ mul-mod-left (n / 2 ^ w) (2 ^ w) ∙ sym (zero-mod (2 ^ w))
 
   -- where z is p - q: what gives p with q is congruent to z, and nothing else
-  from : (r p q : ℕ) (z : ℤ) → Is z p q → (r + q) % 2 ^ w ≡ p % 2 ^ w → Congruent r z
+  pub from : (r p q : ℕ) (z : ℤ) → Is z p q → (r + q) % 2 ^ w ≡ p % 2 ^ w → Congruent r z
   from r p q z e h =
       let a : r + down z + q ≡ r + q + down z = omega arith in
       cancel (2 ^ w) (pow-pos w) r (modulo w z) (down z)

@@ -19,12 +19,12 @@ down (negsuc n) = suc n
 sub-is : (a b : ℕ) → up (subℕ a b) + b ≡ a + down (subℕ a b)
 sub-is a b = sides b a (λ h. rw (lt-ltb a b h) (omega arith)) (λ h. rw (le-ltb a b h) (omega arith))
 
-neg-up : (z : ℤ) → up (negℤ z) ≡ down z
+pub neg-up : (z : ℤ) → up (negℤ z) ≡ down z
 neg-up (pos zero) = refl
 neg-up (pos (suc n)) = refl
 neg-up (negsuc n) = refl
 
-neg-down : (z : ℤ) → down (negℤ z) ≡ up z
+pub neg-down : (z : ℤ) → down (negℤ z) ≡ up z
 neg-down (pos zero) = refl
 neg-down (pos (suc n)) = refl
 neg-down (negsuc n) = refl

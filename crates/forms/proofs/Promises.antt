@@ -56,11 +56,11 @@ count-same : (p q : ℕ → Bool) → ((k : ℕ) → p k ≡ q k) → (n : ℕ) 
 count-same p q h zero = refl
 count-same p q h (suc n) = rw (h n, count-same p q h n)
 
-counted : countBelow (λ (m : ℕ). hasForm (formAt m)) 346 ≡ 142
+counted : countBelow (λ (m : ℕ). hasForm (formAt m)) 346 ≡ 176
 unfolding numbered formAt
 counted = refl
 
-names-counted : length namedForms ≡ 142
+names-counted : length namedForms ≡ 176
 unfolding groups namedForms
 names-counted = refl
 

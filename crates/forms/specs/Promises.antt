@@ -11,7 +11,7 @@ use Rattle.forms.specs.declared.Form.{Form}
 use Rattle.forms.specs.declared.Form.the-variants.{Lanes, Bits, Copy, Shift, Double, Extend, Number, Float, Nothing}
 use Rattle.forms.specs.Forms.{NamedForm, namedForms, formOf}
 
--- the names with a meaning are 142 of the 346
+-- the names with a meaning are 176 of the 346
 abbrev pub listed : ℕ → Bool
 listed m = member (nameOf m) (map (λ (x : NamedForm). x .name) namedForms)
 
@@ -20,7 +20,7 @@ countBelow p zero = 0
 countBelow p (suc n) = choose (p n) 1 0 + countBelow p n
 
 abbrev pub ListedCounted : Type 0
-ListedCounted = (length namedForms ≡ 142) × (countBelow listed 346 ≡ 142)
+ListedCounted = (length namedForms ≡ 176) × (countBelow listed 346 ≡ 176)
 
 -- and they are those that have a form
 abbrev pub hasForm : Form → Bool

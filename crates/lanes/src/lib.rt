@@ -11,14 +11,19 @@ use arithmetic::whole::greatest;
 use arithmetic::whole::least;
 use arithmetic::whole::less;
 use arithmetic::whole::right;
+use halves::HalvedOp;
+use halves::halved;
 use insn::Sign;
 use insn::Width;
 use insn::widths::bits;
+use limits::LimitedOp;
+use limits::limited;
 ghost use mathlib.Core.Path.{_≡_};
 ghost use Prim.Native.Nat.{_+_, _-_, _*_, _/_, _%_, _^_, _<_, _≤_};
 ghost use Rattle.lanes.specs.Lane.{laneOf, lanesOf};
 
-// A lane operation, by its instruction's name. A shift carries its amount, and reads n alone.
+// A lane operation, by its instruction's name. A shift carries its amount, and reads n alone; what stops at the ends of the
+// range, and what is halved, carries its own operation.
 pub enum LaneOp {
     Add,
     Sub,
@@ -33,6 +38,8 @@ pub enum LaneOp {
     Tst,
     Shl(u32),
     Shr(Sign, u32),
+    Limited(LimitedOp, Sign),
+    Halved(HalvedOp, Sign),
 }
 
 // One operation on one lane of w bits: d of the old target, n and m of the sources.
@@ -54,6 +61,8 @@ fn lane(op: LaneOp, w: u32, d: u64, n: u64, m: u64) -> u64
         LaneOp::Tst => ones_if(w, n & m != 0),
         LaneOp::Shl(k) => left(w, n, k),
         LaneOp::Shr(s, k) => right(s, w, n, k),
+        LaneOp::Limited(o, s) => limited(o, s, w, n, m),
+        LaneOp::Halved(o, s) => halved(o, s, w, n, m),
     }
 }
 

@@ -1,11 +1,14 @@
 -- `lanes::place` meets its contract.
 -- Assumes nothing.
-use Prim.Native.Nat.{_^_, _<_}
+use mathlib.Core.Path.{_∙_, ap}
+use Prim.Native.Nat.{ℕ, _+_, _*_, _^_, _<_}
 use native.Mathlib.Nat.{mod-lt}
 use native.Mathlib.Omega.{arith}
 use lib.Pow.{pow-pos}
 use borrow.Author.Needs.{needs}
 use Rattle.arithmetic.proofs.Numbers.{placed, placed-fits}
+use Rattle.lanes.specs.Lane.{laneOf}
+use Rattle.lanes.proofs.Lanewise.{alike}
 use Rattle.lanes.proofs.Promises.{laneBelow}
 use Rattle.lanes.proofs.place.Statement.{statement}
 use Rattle.lanes.proofs.place.Tie as tie
@@ -30,4 +33,7 @@ place-spec =
     (λ c. let a = c .before .before .before .before .args in
     record { fits = placed-fits (a .w) (a .at) (c .lane .result) (a .out) (omega arith) (below c) (omega arith) })
     (λ c. let a = c .before .before .before .before .args in
-    cc (placed (a .w) (a .at) (c .lane .result) (omega arith) (below c))))
+    ap (λ (n : ℕ). a .out + n)
+    (placed (a .w) (a .at) (c .lane .result) (omega arith) (below c)
+    ∙ ap (λ (n : ℕ). 2 ^ a .at * n)
+    (c .lane .ensures ∙ alike (laneOf (a .op) (a .w)) (c .before .before .before .cut .ensures) (c .before .before .cut2 .ensures) (c .before .cut3 .ensures)))))

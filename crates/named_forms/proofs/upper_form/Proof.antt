@@ -3,8 +3,11 @@
 use mathlib.Core.Path.{refl, _∙_}
 use Prim.Native.Nat.{ℕ, _-_}
 use native.Mathlib.Omega.{arith}
+use borrow.Author.Needs.{needs}
 use Rattle.laws.proofs.Range.{values}
-use Rattle.lanes.specs.declared.LaneOp.the-variants.{Sub, Mls, Max, Min, Cgt, Cge, Ceq}
+use Rattle.limits.specs.declared.LimitedOp.the-variants.{Qsub}
+use Rattle.halves.specs.declared.HalvedOp.the-variants.{Hsub}
+use Rattle.lanes.specs.declared.LaneOp.the-variants.{Sub, Mls, Max, Min, Cgt, Cge, Ceq, Limited, Halved}
 use Rattle.insn.specs.declared.Sign.the-variants.{Unsigned}
 use Rattle.insn.specs.Widths.{widthAt}
 use Rattle.forms.specs.declared.Form.the-variants.{Lanes, Bits, Nothing}
@@ -18,6 +21,9 @@ unfolding values numbered formAt
 upper-form-spec =
     tie.close
     (tie.spec
+    (λ c. search needs)
+    (λ c κs. tt)
+    (λ c κs. tt)
     (λ c κs. tt)
     (λ c κs. tt)
     (λ c κs. tt)
@@ -29,15 +35,16 @@ upper-form-spec =
     (λ c. one 102 refl (c .match .keys2))
     (λ c. one 103 refl (c .match .keys3))
     (λ c. stretch (λ (m : ℕ). Bits Eor) (c .before .before .before .pre .0) (c .if2 .taken) refl)
-    (λ c. let r = c .before .before .before .match .rest in
-    stretch (λ (m : ℕ). Nothing) (above (above (above (c .before .if2 .left) (r .0 .0 .1)) (r .0 .1)) (r .1)) (c .if3 .taken) refl)
-    (λ c. c .lanes-at .ensures ∙ stretch (λ (m : ℕ). Lanes (Cgt Unsigned) (widthAt (m - 111))) (c .before .before .if3 .left) (c .before .if4 .taken) refl)
-    (λ c. c .lanes-at2 .ensures ∙ stretch (λ (m : ℕ). Lanes (Cge Unsigned) (widthAt (m - 114))) (c .before .before .if4 .left) (c .before .if5 .taken) refl)
-    (λ c. stretch (λ (m : ℕ). Nothing) (c .before .if5 .left) (c .if6 .taken) refl)
-    (λ c. c .lanes-at3 .ensures ∙ stretch (λ (m : ℕ). Lanes (Max Unsigned) (widthAt (m - 133))) (c .before .if6 .left) (c .before .before .before .before .before .before .if1 .taken) refl)
-    (λ c. c .lanes-at4 .ensures ∙ stretch (λ (m : ℕ). Lanes (Min Unsigned) (widthAt (m - 136))) (c .before .before .if1 .left) (c .before .if7 .taken) refl)
-    (λ c. stretch (λ (m : ℕ). Nothing) (c .before .if7 .left) (c .if8 .taken) refl)
-    (λ c. c .lanes-at5 .ensures ∙ stretch (λ (m : ℕ). Lanes Sub (widthAt (m - 145))) (c .before .before .if8 .left) (c .before .if9 .taken) refl)
-    (λ c. c .lanes-at6 .ensures ∙ stretch (λ (m : ℕ). Lanes Ceq (widthAt (m - 149))) (c .before .before .if9 .left) (c .before .if10 .taken) refl)
-    (λ c. c .lanes-at7 .ensures ∙ stretch (λ (m : ℕ). Lanes Mls (widthAt (m - 152))) (c .before .before .if10 .left) (c .before .if11 .taken) refl)
-    (λ c. stretch (λ (m : ℕ). Nothing) {hi = 173} (c .if11 .left) (omega arith) refl))
+    (λ c. let r = c .before .before .before .before .match .rest in
+    c .lanes-at .ensures ∙ stretch (λ (m : ℕ). Lanes (Halved Hsub Unsigned) (widthAt (m - 104))) (above (above (above (c .before .before .if2 .left) (r .0 .0 .1)) (r .0 .1)) (r .1)) (c .before .if3 .taken) refl)
+    (λ c. c .lanes-at2 .ensures ∙ stretch (λ (m : ℕ). Lanes (Limited Qsub Unsigned) (widthAt (m - 107))) (c .before .before .if3 .left) (c .before .if4 .taken) refl)
+    (λ c. c .lanes-at3 .ensures ∙ stretch (λ (m : ℕ). Lanes (Cgt Unsigned) (widthAt (m - 111))) (c .before .before .if4 .left) (c .before .if5 .taken) refl)
+    (λ c. c .lanes-at4 .ensures ∙ stretch (λ (m : ℕ). Lanes (Cge Unsigned) (widthAt (m - 114))) (c .before .before .if5 .left) (c .before .if6 .taken) refl)
+    (λ c. stretch (λ (m : ℕ). Nothing) (c .before .if6 .left) (c .if7 .taken) refl)
+    (λ c. c .lanes-at5 .ensures ∙ stretch (λ (m : ℕ). Lanes (Max Unsigned) (widthAt (m - 133))) (c .before .if7 .left) (c .before .before .before .before .before .before .before .if1 .taken) refl)
+    (λ c. c .lanes-at6 .ensures ∙ stretch (λ (m : ℕ). Lanes (Min Unsigned) (widthAt (m - 136))) (c .before .before .if1 .left) (c .before .if8 .taken) refl)
+    (λ c. stretch (λ (m : ℕ). Nothing) (c .before .if8 .left) (c .if9 .taken) refl)
+    (λ c. c .lanes-at7 .ensures ∙ stretch (λ (m : ℕ). Lanes Sub (widthAt (m - 145))) (c .before .before .if9 .left) (c .before .if10 .taken) refl)
+    (λ c. c .lanes-at8 .ensures ∙ stretch (λ (m : ℕ). Lanes Ceq (widthAt (m - 149))) (c .before .before .if10 .left) (c .before .if11 .taken) refl)
+    (λ c. c .lanes-at9 .ensures ∙ stretch (λ (m : ℕ). Lanes Mls (widthAt (m - 152))) (c .before .before .if11 .left) (c .before .if12 .taken) refl)
+    (λ c. stretch (λ (m : ℕ). Nothing) {hi = 173} (c .if12 .left) (omega arith) refl))

@@ -1,0 +1,4 @@
+pub mod Ends
+pub mod Moved
+pub mod Near
+pub mod Promises

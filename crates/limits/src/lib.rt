@@ -1,0 +1,148 @@
+// Sums and differences that stop at the ends of a lane's range. They are tested before they are taken, so that no number
+// has more than 64 bits.
+use arithmetic::arith::difference;
+use arithmetic::arith::ones;
+use arithmetic::arith::sum;
+use insn::Sign;
+ghost use mathlib.Core.Path.{_≡_};
+ghost use Prim.Native.Nat.{_^_, _<_, _≤_};
+ghost use lib.IntN.{pos, _+ℤ_, _-ℤ_};
+ghost use lib.Signed.{ltZ};
+ghost use Rattle.laws.specs.Signed.{modulo};
+ghost use Rattle.arithmetic.specs.Whole.{readAs};
+ghost use Rattle.limits.specs.Range.{lowest, highest, clamp, exactLimited};
+
+// An operation that stops at the ends of the range, by its instruction's name.
+pub enum LimitedOp {
+    Qadd,
+    Qsub,
+}
+
+// The highest number of the range, as a lane.
+fn highest(s: Sign, w: u32) -> u64
+    requires { ⌜ (0 < w) × (w ≤ 64) ⌝ }
+    ensures { λ r. ⌜ r ≡ modulo w (highest s w) ⌝ }
+{
+    match s {
+        Sign::Unsigned => ones(w),
+        Sign::Signed => ones(w) / 2,
+    }
+}
+
+// The lowest number of the range, as a lane.
+fn lowest(s: Sign, w: u32) -> u64
+    requires { ⌜ (0 < w) × (w ≤ 64) ⌝ }
+    ensures { λ r. ⌜ r ≡ modulo w (lowest s w) ⌝ }
+{
+    match s {
+        Sign::Unsigned => 0,
+        Sign::Signed => ones(w) / 2 + 1,
+    }
+}
+
+// Whether x + y is above the range: neither is negative, and the room above y is less than x.
+fn sum_above(s: Sign, w: u32, x: u64, y: u64) -> bool
+    requires { ⌜ ((0 < w) × (w ≤ 64)) × ((x < 2 ^ w) × (y < 2 ^ w)) ⌝ }
+    ensures { λ r. ⌜ r ≡ ltZ (highest s w) (readAs s w x +ℤ readAs s w y) ⌝ }
+{
+    let t = highest(s, w);
+    if t < x {
+        return false;
+    }
+    if t < y {
+        return false;
+    }
+    t - y < x
+}
+
+// Whether x + y is below the range: both are negative, and together too far from 0.
+fn sum_below(s: Sign, w: u32, x: u64, y: u64) -> bool
+    requires { ⌜ ((0 < w) × (w ≤ 64)) × ((x < 2 ^ w) × (y < 2 ^ w)) ⌝ }
+    ensures { λ r. ⌜ r ≡ ltZ (readAs s w x +ℤ readAs s w y) (lowest s w) ⌝ }
+{
+    let t = highest(s, w);
+    if x <= t {
+        return false;
+    }
+    if y <= t {
+        return false;
+    }
+    (x - t - 1) + (y - t - 1) < t + 1
+}
+
+// Whether x - y is above the range: x is not negative, y is, and it is too far from 0.
+fn difference_above(s: Sign, w: u32, x: u64, y: u64) -> bool
+    requires { ⌜ ((0 < w) × (w ≤ 64)) × ((x < 2 ^ w) × (y < 2 ^ w)) ⌝ }
+    ensures { λ r. ⌜ r ≡ ltZ (highest s w) (readAs s w x -ℤ readAs s w y) ⌝ }
+{
+    let t = highest(s, w);
+    if t < x {
+        return false;
+    }
+    if y <= t {
+        return false;
+    }
+    y - t - 1 <= x
+}
+
+// Whether x - y is below the range: y is not negative, and x is less than y above the lowest number.
+fn difference_below(s: Sign, w: u32, x: u64, y: u64) -> bool
+    requires { ⌜ ((0 < w) × (w ≤ 64)) × ((x < 2 ^ w) × (y < 2 ^ w)) ⌝ }
+    ensures { λ r. ⌜ r ≡ ltZ (readAs s w x -ℤ readAs s w y) (lowest s w) ⌝ }
+{
+    let t = highest(s, w);
+    if t < y {
+        return false;
+    }
+    if t < x {
+        return x - t - 1 < y;
+    }
+    x + lowest(s, w) < y
+}
+
+// Whether the exact result is above the range.
+fn above(op: LimitedOp, s: Sign, w: u32, x: u64, y: u64) -> bool
+    requires { ⌜ ((0 < w) × (w ≤ 64)) × ((x < 2 ^ w) × (y < 2 ^ w)) ⌝ }
+    ensures { λ r. ⌜ r ≡ ltZ (highest s w) (exactLimited op (readAs s w x) (readAs s w y)) ⌝ }
+{
+    match op {
+        LimitedOp::Qadd => sum_above(s, w, x, y),
+        LimitedOp::Qsub => difference_above(s, w, x, y),
+    }
+}
+
+// Whether it is below the range.
+fn below(op: LimitedOp, s: Sign, w: u32, x: u64, y: u64) -> bool
+    requires { ⌜ ((0 < w) × (w ≤ 64)) × ((x < 2 ^ w) × (y < 2 ^ w)) ⌝ }
+    ensures { λ r. ⌜ r ≡ ltZ (exactLimited op (readAs s w x) (readAs s w y)) (lowest s w) ⌝ }
+{
+    match op {
+        LimitedOp::Qadd => sum_below(s, w, x, y),
+        LimitedOp::Qsub => difference_below(s, w, x, y),
+    }
+}
+
+// Its lowest w bits.
+fn wrapped(op: LimitedOp, w: u32, x: u64, y: u64) -> u64
+    requires { ⌜ (0 < w) × (w ≤ 64) ⌝ }
+    ensures { λ r. ⌜ r ≡ modulo w (exactLimited op (pos x) (pos y)) ⌝ }
+{
+    match op {
+        LimitedOp::Qadd => sum(w, x, y),
+        LimitedOp::Qsub => difference(w, x, y),
+    }
+}
+
+// The exact result as a lane, moved to the nearer end of the range when outside it.
+pub fn limited(op: LimitedOp, s: Sign, w: u32, x: u64, y: u64) -> u64
+    requires { ⌜ ((0 < w) × (w ≤ 64)) × ((x < 2 ^ w) × (y < 2 ^ w)) ⌝ }
+    ensures { λ r. ⌜ r ≡ modulo w (clamp s w (exactLimited op (readAs s w x) (readAs s w y))) ⌝ }
+{
+    if below(op, s, w, x, y) {
+        return lowest(s, w);
+    }
+    if above(op, s, w, x, y) {
+        return highest(s, w);
+    }
+    wrapped(op, w, x, y)
+}
