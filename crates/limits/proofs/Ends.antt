@@ -1,14 +1,12 @@
--- The ends of a lane's range, and tests of sums and differences against them; each law over the width and the sign.
+-- The ends of a lane's range, and what a lane is read as; each law over the width and the sign.
 -- Assumes nothing.
 use mathlib.Core.Path.{_≡_, refl, sym, _∙_}
-use mathlib.Core.Bool.{true, false}
 use Prim.Native.Nat.{ℕ, suc, _+_, _-_, _%_, _^_, _≤_, _<_}
 use native.Mathlib.Nat.{mod-eq-of-lt, mod-self, zero-mod}
 use native.Mathlib.Omega.{arith}
-use lib.Dec.{ltb, leb}
-use lib.IntN.{ℤ, pos, _+ℤ_, _-ℤ_}
+use lib.Dec.{ltb}
+use lib.IntN.{pos}
 use lib.Pow.{pow-pos}
-use lib.Signed.{ltZ}
 use borrow.Author.Tests.{lt-ltb, le-ltb}
 use Rattle.laws.specs.Choice.{choose}
 use Rattle.laws.specs.Signed.{modulo}
@@ -21,7 +19,6 @@ use Rattle.arithmetic.proofs.Signs.{read-low, read-high}
 use Rattle.arithmetic.proofs.Wholes.{Is, neg-up, neg-down}
 use Rattle.arithmetic.proofs.Modulo.{from}
 use Rattle.limits.specs.Range.{lowest, highest}
-use Rattle.arithmetic.proofs.Order.{is-plus, is-minus, not-less, less-as, less-at-most}
 
 -- how far the range goes above 0, and how far below
 abbrev pub top : Sign → ℕ → ℕ
@@ -71,10 +68,10 @@ abbrev pub weight : Sign → ℕ → ℕ → ℕ
 weight s w x = choose (ltb (top s w) x) (2 ^ w) 0
 
 module _ (s : Sign) (w x : ℕ) where
-  low : x ≤ top s w → weight s w x ≡ 0
+  pub low : x ≤ top s w → weight s w x ≡ 0
   low h = rw (le-ltb (top s w) x h)
 
-  high : top s w < x → weight s w x ≡ 2 ^ w
+  pub high : top s w < x → weight s w x ≡ 2 ^ w
   high h = rw (lt-ltb (top s w) x h)
 
 -- a lane above the top is a signed one
@@ -99,104 +96,3 @@ module _ (w x : ℕ) (z : 0 < w) (l : x < 2 ^ w) where
       (λ h. let e = high s w x (omega arith) in
       let r = reach s w z in
       (omega arith, omega arith))
-
--- where v is p - q, tests of v against the ends
-module _ (s : Sign) (w : ℕ) (v : ℤ) (p q : ℕ) (k : Is v p q) where
-  pub not-above : p ≤ top s w + q → ltZ (highest s w) v ≡ false
-  not-above l = not-less (highest s w) v (top s w) 0 p q (top-is s w) k (omega arith)
-
-  pub above-as : (c d : ℕ) → (top s w + q < p → c < d) → (p ≤ top s w + q → d ≤ c) → ltZ (highest s w) v ≡ ltb c d
-  above-as c d f g = less-as (highest s w) v (top s w) 0 p q (top-is s w) k c d (λ l. f (omega arith)) (λ l. g (omega arith))
-
-  pub above-at-most : (c d : ℕ) → (top s w + q < p → c ≤ d) → (p ≤ top s w + q → d < c) → ltZ (highest s w) v ≡ leb c d
-  above-at-most c d f g = less-at-most (highest s w) v (top s w) 0 p q (top-is s w) k c d (λ l. f (omega arith)) (λ l. g (omega arith))
-
-  pub not-below : q ≤ p + bottom s w → ltZ v (lowest s w) ≡ false
-  not-below l = not-less v (lowest s w) p q 0 (bottom s w) k (bottom-is s w) (omega arith)
-
-  pub below-as : (c d : ℕ) → (p + bottom s w < q → c < d) → (q ≤ p + bottom s w → d ≤ c) → ltZ v (lowest s w) ≡ ltb c d
-  below-as c d f g = less-as v (lowest s w) p q 0 (bottom s w) k (bottom-is s w) c d (λ l. f (omega arith)) (λ l. g (omega arith))
-
--- the tests of the code, where t is the highest number as a lane
-module _ (s : Sign) (w x y t : ℕ) (z : 0 < w) (lx : x < 2 ^ w) (ly : y < 2 ^ w) (e : t ≡ modulo w (highest s w)) where
-  at-top : t ≡ top s w
-  at-top = e ∙ top-lane s w z
-
-  sum : Is (readAs s w x +ℤ readAs s w y) (x + y) (weight s w x + weight s w y)
-  sum = is-plus (readAs s w x) (readAs s w y) x (weight s w x) y (weight s w y) (read-is w x z lx s) (read-is w y z ly s)
-
-  difference : Is (readAs s w x -ℤ readAs s w y) (x + weight s w y) (weight s w x + y)
-  difference = is-minus (readAs s w x) (readAs s w y) x (weight s w x) y (weight s w y) (read-is w x z lx s) (read-is w y z ly s)
-
-  -- a sum above the range: neither is negative
-  pub sum-above-x : t < x → false ≡ ltZ (highest s w) (readAs s w x +ℤ readAs s w y)
-  sum-above-x h = let g = at-top in
-      sym (not-above s w (readAs s w x +ℤ readAs s w y) (x + y) (weight s w x + weight s w y) sum (omega (arith, high s w x (omega arith), reach s w z, bounds w y z ly s)))
-
-  pub sum-above-y : t < y → false ≡ ltZ (highest s w) (readAs s w x +ℤ readAs s w y)
-  sum-above-y h = let g = at-top in
-      sym (not-above s w (readAs s w x +ℤ readAs s w y) (x + y) (weight s w x + weight s w y) sum (omega (arith, high s w y (omega arith), reach s w z, bounds w x z lx s)))
-
-  pub sum-above : x ≤ t → y ≤ t → ltb (t - y) x ≡ ltZ (highest s w) (readAs s w x +ℤ readAs s w y)
-  sum-above h k =
-      let g = at-top in
-      let e0 = low s w x (omega arith) in
-      let e1 = low s w y (omega arith) in
-      sym (above-as s w (readAs s w x +ℤ readAs s w y) (x + y) (weight s w x + weight s w y) sum (t - y) x (λ l. omega arith) (λ l. omega arith))
-
-  -- below it: both are
-  pub sum-below-x : x ≤ t → false ≡ ltZ (readAs s w x +ℤ readAs s w y) (lowest s w)
-  sum-below-x h = let g = at-top in
-      sym (not-below s w (readAs s w x +ℤ readAs s w y) (x + y) (weight s w x + weight s w y) sum (omega (arith, low s w x (omega arith), bounds w y z ly s)))
-
-  pub sum-below-y : y ≤ t → false ≡ ltZ (readAs s w x +ℤ readAs s w y) (lowest s w)
-  sum-below-y h = let g = at-top in
-      sym (not-below s w (readAs s w x +ℤ readAs s w y) (x + y) (weight s w x + weight s w y) sum (omega (arith, low s w y (omega arith), bounds w x z lx s)))
-
-  pub sum-below : t < x → t < y → ltb (x - t - 1 + (y - t - 1)) (t + 1) ≡ ltZ (readAs s w x +ℤ readAs s w y) (lowest s w)
-  sum-below h k =
-      let g = at-top in
-      let e0 = high s w x (omega arith) in
-      let e1 = high s w y (omega arith) in
-      let e2 = reach s w z in
-      let e3 = negative s w x lx (omega arith) in
-      sym (below-as s w (readAs s w x +ℤ readAs s w y) (x + y) (weight s w x + weight s w y) sum (x - t - 1 + (y - t - 1)) (t + 1) (λ l. omega arith) (λ l. omega arith))
-
-  -- a difference above the range: y alone is negative
-  pub difference-above-x : t < x → false ≡ ltZ (highest s w) (readAs s w x -ℤ readAs s w y)
-  difference-above-x h = let g = at-top in
-      sym (not-above s w (readAs s w x -ℤ readAs s w y) (x + weight s w y) (weight s w x + y) difference (omega (arith, high s w x (omega arith), reach s w z, negative s w x lx (omega arith), bounds w y z ly s)))
-
-  pub difference-above-y : y ≤ t → false ≡ ltZ (highest s w) (readAs s w x -ℤ readAs s w y)
-  difference-above-y h = let g = at-top in
-      sym (not-above s w (readAs s w x -ℤ readAs s w y) (x + weight s w y) (weight s w x + y) difference (omega (arith, low s w y (omega arith), bounds w x z lx s)))
-
-  pub difference-above : x ≤ t → t < y → leb (y - t - 1) x ≡ ltZ (highest s w) (readAs s w x -ℤ readAs s w y)
-  difference-above h k =
-      let g = at-top in
-      let e0 = low s w x (omega arith) in
-      let e1 = high s w y (omega arith) in
-      let e2 = reach s w z in
-      let e3 = negative s w y ly (omega arith) in
-      sym (above-at-most s w (readAs s w x -ℤ readAs s w y) (x + weight s w y) (weight s w x + y) difference (y - t - 1) x (λ l. omega arith) (λ l. omega arith))
-
-  -- below it: y is not negative
-  pub difference-below-y : t < y → false ≡ ltZ (readAs s w x -ℤ readAs s w y) (lowest s w)
-  difference-below-y h = let g = at-top in
-      sym (not-below s w (readAs s w x -ℤ readAs s w y) (x + weight s w y) (weight s w x + y) difference (omega (arith, high s w y (omega arith), bounds w x z lx s)))
-
-  pub difference-below-x : y ≤ t → t < x → ltb (x - t - 1) y ≡ ltZ (readAs s w x -ℤ readAs s w y) (lowest s w)
-  difference-below-x h k =
-      let g = at-top in
-      let e0 = low s w y (omega arith) in
-      let e1 = high s w x (omega arith) in
-      let e2 = reach s w z in
-      sym (below-as s w (readAs s w x -ℤ readAs s w y) (x + weight s w y) (weight s w x + y) difference (x - t - 1) y (λ l. omega arith) (λ l. omega arith))
-
-  pub difference-below : (b : ℕ) → b ≡ modulo w (lowest s w) → y ≤ t → x ≤ t → ltb (x + b) y ≡ ltZ (readAs s w x -ℤ readAs s w y) (lowest s w)
-  difference-below b f h k =
-      let g = at-top in
-      let d = f ∙ bottom-lane s w z in
-      let e0 = low s w y (omega arith) in
-      let e1 = low s w x (omega arith) in
-      sym (below-as s w (readAs s w x -ℤ readAs s w y) (x + weight s w y) (weight s w x + y) difference (x + b) y (λ l. omega arith) (λ l. omega arith))

@@ -2,3 +2,4 @@ pub mod Ends
 pub mod Moved
 pub mod Near
 pub mod Promises
+pub mod Tests

@@ -36,7 +36,7 @@ module _ (s : Sign) (w : ℕ) (z : ℤ) where
         not-holds (ltZ (highest s w) z) (sym (le-not-lt (highest s w) z) ∙ k .1),
       )
 
-  pub between : within s w z ≡ true → (up z ≤ top s w + down z) × (down z ≤ up z + bottom s w)
+  between : within s w z ≡ true → (up z ≤ top s w + down z) × (down z ≤ up z + bottom s w)
   between e =
       let k = not-outside e in
       let a = at-least z (lowest s w) (up z) (down z) 0 (bottom s w) refl (bottom-is s w) (k .0) in

@@ -1,25 +1,22 @@
 -- The proofs of what specs/Promises.antt states.
 -- Assumes nothing.
-use mathlib.Core.Path.{_≡_, refl}
+use mathlib.Core.Path.{_≡_, refl, sym}
 use mathlib.Core.Bool.{Bool, true, false}
 use Prim.Native.Nat.{ℕ}
 use native.Mathlib.Omega.{arith}
-use lib.IntN.{ℤ}
 use lib.Signed.{ltZ}
 use Rattle.insn.specs.declared.Sign.{Sign}
 use Rattle.arithmetic.specs.Whole.{readAs}
 use Rattle.arithmetic.proofs.Order.{not-less}
 use Rattle.limits.specs.Range.{lowest, highest, clamp}
 use Rattle.limits.specs.Promises.{within, LaneWithin, WithinRead, MovedWithin, NotMoved, Nearest}
-use Rattle.limits.proofs.Ends.{top, bottom, top-is, bottom-is, weight, read-is, bounds, not-above, not-below}
+use Rattle.limits.proofs.Ends.{top, bottom, top-is, bottom-is}
+use Rattle.limits.proofs.Tests.{read-within}
 use Rattle.limits.proofs.Moved.{from-below, from-above, not-moved}
 use Rattle.limits.proofs.Near.{inside, not-outside, read-again, nearest as none-nearer}
 
 pub laneWithin : LaneWithin
-laneWithin s w x z l =
-    let b = bounds w x z l s in
-    let i = read-is w x z l s in
-    inside s w (readAs s w x) (not-below s w (readAs s w x) x (weight s w x) i (b .1)) (not-above s w (readAs s w x) x (weight s w x) i (b .0))
+laneWithin s w x z l = let e = read-within s w x z l in inside s w (readAs s w x) (sym (e .0)) (sym (e .1))
 
 pub withinRead : WithinRead
 withinRead = read-again

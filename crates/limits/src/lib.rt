@@ -55,7 +55,7 @@ fn sum_above(s: Sign, w: u32, x: u64, y: u64) -> bool
     t - y < x
 }
 
-// Whether x + y is below the range: both are negative, and together too far from 0.
+// Whether x + y is below the range: both are negative, and y is farther below 0 than x above the lowest number.
 fn sum_below(s: Sign, w: u32, x: u64, y: u64) -> bool
     requires { ⌜ ((0 < w) × (w ≤ 64)) × ((x < 2 ^ w) × (y < 2 ^ w)) ⌝ }
     ensures { λ r. ⌜ r ≡ ltZ (readAs s w x +ℤ readAs s w y) (lowest s w) ⌝ }
@@ -67,10 +67,10 @@ fn sum_below(s: Sign, w: u32, x: u64, y: u64) -> bool
     if y <= t {
         return false;
     }
-    (x - t - 1) + (y - t - 1) < t + 1
+    x - t - 1 <= ones(w) - y
 }
 
-// Whether x - y is above the range: x is not negative, y is, and it is too far from 0.
+// Whether x - y is above the range: x is not negative, y is, and x is at least as far above 0 as y above the lowest number.
 fn difference_above(s: Sign, w: u32, x: u64, y: u64) -> bool
     requires { ⌜ ((0 < w) × (w ≤ 64)) × ((x < 2 ^ w) × (y < 2 ^ w)) ⌝ }
     ensures { λ r. ⌜ r ≡ ltZ (highest s w) (readAs s w x -ℤ readAs s w y) ⌝ }
@@ -85,7 +85,7 @@ fn difference_above(s: Sign, w: u32, x: u64, y: u64) -> bool
     y - t - 1 <= x
 }
 
-// Whether x - y is below the range: y is not negative, and x is less than y above the lowest number.
+// Whether x - y is below the range: y is not negative, and x is less far above the lowest number than y above 0.
 fn difference_below(s: Sign, w: u32, x: u64, y: u64) -> bool
     requires { ⌜ ((0 < w) × (w ≤ 64)) × ((x < 2 ^ w) × (y < 2 ^ w)) ⌝ }
     ensures { λ r. ⌜ r ≡ ltZ (readAs s w x -ℤ readAs s w y) (lowest s w) ⌝ }

@@ -2,7 +2,7 @@
 -- Assumes nothing.
 use native.Mathlib.Omega.{arith}
 use borrow.Author.Needs.{needs}
-use Rattle.limits.proofs.Ends.{difference-above-x, difference-above-y, difference-above}
+use Rattle.limits.proofs.Tests.{difference-above-x, difference-above-y, difference-above}
 use Rattle.limits.proofs.difference_above.Statement.{statement}
 use Rattle.limits.proofs.difference_above.Tie as tie
 

@@ -4,7 +4,8 @@ use mathlib.Core.Path.{_∙_}
 use native.Mathlib.Omega.{arith}
 use lib.Pow.{pow-mono}
 use borrow.Author.Needs.{needs}
-use Rattle.limits.proofs.Ends.{top-lane, bottom-lane, reach, difference-below-x, difference-below-y, difference-below}
+use Rattle.limits.proofs.Ends.{top-lane, bottom-lane, reach}
+use Rattle.limits.proofs.Tests.{difference-below-x, difference-below-y, difference-below}
 use Rattle.limits.proofs.difference_below.Statement.{statement}
 use Rattle.limits.proofs.difference_below.Tie as tie
 

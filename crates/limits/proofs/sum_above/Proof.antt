@@ -2,7 +2,7 @@
 -- Assumes nothing.
 use native.Mathlib.Omega.{arith}
 use borrow.Author.Needs.{needs}
-use Rattle.limits.proofs.Ends.{sum-above-x, sum-above-y, sum-above}
+use Rattle.limits.proofs.Tests.{sum-above-x, sum-above-y, sum-above}
 use Rattle.limits.proofs.sum_above.Statement.{statement}
 use Rattle.limits.proofs.sum_above.Tie as tie
 

@@ -1,10 +1,8 @@
 -- `limits::sum_below` meets its contract.
 -- Assumes nothing.
-use mathlib.Core.Path.{_∙_}
 use native.Mathlib.Omega.{arith}
-use lib.Pow.{pow-mono}
 use borrow.Author.Needs.{needs}
-use Rattle.limits.proofs.Ends.{top-lane, reach, negative, sum-below-x, sum-below-y, sum-below}
+use Rattle.limits.proofs.Tests.{sum-below-x, sum-below-y, sum-below}
 use Rattle.limits.proofs.sum_below.Statement.{statement}
 use Rattle.limits.proofs.sum_below.Tie as tie
 
@@ -19,11 +17,7 @@ sum-below-spec =
     sum-below-y (a .s) (a .w) (a .x) (a .y) (c .before .before .highest .result) (omega arith) (omega arith) (omega arith) (c .before .before .highest .ensures) (omega arith))
     (λ c. search needs)
     (λ c. search needs)
+    (λ c κs. search needs)
     (λ c. search needs)
-    (λ c. search needs)
-    (λ c. let a = c .before .before .before .args in
-    let t = c .before .before .highest .ensures ∙ top-lane (a .s) (a .w) (omega arith) in
-    record { fits = omega (arith, reach (a .s) (a .w) (omega arith), negative (a .s) (a .w) (a .x) (omega arith) (omega arith), pow-mono {i = a .w} {j = 64} (omega arith)) })
-    (λ c. search needs)
-    (λ c. let a = c .before .before .before .args in
-    sum-below (a .s) (a .w) (a .x) (a .y) (c .before .before .highest .result) (omega arith) (omega arith) (omega arith) (c .before .before .highest .ensures) (omega arith) (omega arith)))
+    (λ c. let a = c .before .before .before .before .args in
+    sum-below (a .s) (a .w) (a .x) (a .y) (c .before .before .before .highest .result) (omega arith) (omega arith) (omega arith) (c .before .before .before .highest .ensures) (c .ones .result) (c .ones .ensures) (omega arith) (omega arith)))
