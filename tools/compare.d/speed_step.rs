@@ -1,7 +1,8 @@
 //! How fast pairs are stepped beside a plain interpreter: the same pairs on the same registers, in
-//! turns, first those of the names with registers of one length, then of those with registers of
-//! different lengths. Ours is the program named by the argument, and the time of its start is taken
-//! off. Before that the two must write the same line, for the rounds that the gate runs too.
+//! turns, first those of the names with registers of one length, then of those that stop at the ends
+//! of the range or halve, then of those with registers of different lengths. Ours is the program named
+//! by the argument, and the time of its start is taken off. Before that the two must write the same
+//! line, for the rounds that the gate runs too.
 
 use oracle::clock::{beside, ROUNDS};
 use oracle::isa::{FpReg, Operand};
@@ -24,19 +25,22 @@ type Pairs = [[u16; 2]];
 fn main() -> ExitCode {
     let program = std::env::args().nth(1).expect("the program that steps pairs");
     let (list, start) = cases();
-    let (alike, unlike) = list.split_at(list.iter().position(differ).unwrap_or(list.len()));
-    assert!(unlike.iter().all(differ), "the pairs with registers of one length come first");
+    let first = |found: fn(&[u16; 2]) -> bool| list.iter().position(found).unwrap_or(list.len());
+    let (same, unlike) = list.split_at(first(differ));
+    let (alike, limits) = same.split_at(first(stops));
+    assert!(limits.iter().all(stops) && unlike.iter().all(differ), "the pairs stand in this order");
+    let groups = [("one length", alike), ("limits and halves", limits), ("different lengths", unlike)];
     let mut report = Report::default();
     let gate = GATE_TIMES.trim().parse().expect("the rounds of the gate");
     report.expect(GATE.to_owned(), interpreted(&list, start, gate), || "the gate's line".to_owned());
-    for (what, list) in [("all", &list[..]), ("one length", alike), ("different lengths", unlike)] {
+    for (what, list) in [("all", &list[..])].into_iter().chain(groups) {
         for times in [0, 1, 2, gate, TIMES] {
             let theirs = interpreted(list, start, times);
             let what = || format!("{what}, {times} rounds of the list");
             report.expect(stepped(&program, list, start, times), theirs, what);
         }
     }
-    for (what, list) in [("one length", alike), ("different lengths", unlike)] {
+    for (what, list) in groups {
         tell(what, &program, list, start);
     }
     report.status()
@@ -74,6 +78,12 @@ fn differ(&[hw1, hw2]: &[u16; 2]) -> bool {
     let operands = decode(hw1, hw2, 0).expect("a pair that is read").operands;
     let lengths: Vec<_> = operands.as_slice().filter_map(doublewords).map(|r| r.1).collect();
     lengths.windows(2).any(|two| two[0] != two[1])
+}
+
+/// Whether a pair stops at the ends of the range or halves.
+fn stops(&[hw1, hw2]: &[u16; 2]) -> bool {
+    let name = decode(hw1, hw2, 0).expect("a pair that is read").mnemonic;
+    ["vqadd", "vqsub", "vhadd", "vrhadd", "vhsub"].iter().any(|stem| name.starts_with(stem))
 }
 
 /// The line that our program writes.
