@@ -1,5 +1,5 @@
 -- Halves of sums and differences of lanes.
--- From ARM DDI 0406C, A8.8, VHADD, VHSUB and VRHADD, which keep the bits of the result from bit 1 on; and document 02, F-1.
+-- From ARM DDI 0406C, A8.8, VHADD, VHSUB and VRHADD; and document 02, F-1.
 -- Assumes nothing.
 use lib.IntN.{ℤ, pos, _+ℤ_, _-ℤ_}
 use lib.Signed.{shrZ}

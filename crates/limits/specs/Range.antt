@@ -1,5 +1,5 @@
 -- The range of a lane of w bits, and what an operation leaves that stops at the ends of it.
--- From ARM DDI 0406C, A8.8, VQADD and VQSUB, and A2.2.1, SatQ; and document 02, F-1.
+-- From ARM DDI 0406C, A8.8, VQADD and VQSUB; and document 02, F-1.
 -- Assumes nothing.
 use Prim.Native.Nat.{ℕ, _-_, _^_}
 use lib.IntN.{ℤ, pos, negℤ, _+ℤ_, _-ℤ_}
