@@ -1,7 +1,7 @@
 //! How fast pairs are stepped beside a plain interpreter: the same pairs on the same registers, in
-//! turns, first those of the names with registers of one length, then of those that stop at the ends
-//! of the range or halve, then of those with registers of different lengths. Ours is the program named
-//! by the argument, and the time of its start is taken off. Before that the two must write the same
+//! turns, first those of the plain names with registers of one length, then of the saturating and
+//! halving ones, then of those with registers of different lengths. Ours is the program named by the
+//! argument, and the time of its start is taken off. Before that the two must write the same
 //! line, for the rounds that the gate runs too.
 
 use oracle::clock::{beside, ROUNDS};
@@ -25,11 +25,9 @@ type Pairs = [[u16; 2]];
 fn main() -> ExitCode {
     let program = std::env::args().nth(1).expect("the program that steps pairs");
     let (list, start) = cases();
-    let first = |found: fn(&[u16; 2]) -> bool| list.iter().position(found).unwrap_or(list.len());
-    let (same, unlike) = list.split_at(first(differ));
-    let (alike, limits) = same.split_at(first(stops));
-    assert!(limits.iter().all(stops) && unlike.iter().all(differ), "the pairs stand in this order");
-    let groups = [("one length", alike), ("limits and halves", limits), ("different lengths", unlike)];
+    let (same, unlike) = split(&list, differ);
+    let (plain, ends) = split(same, saturates_or_halves);
+    let groups = [("one length", plain), ("saturating and halving", ends), ("different lengths", unlike)];
     let mut report = Report::default();
     let gate = GATE_TIMES.trim().parse().expect("the rounds of the gate");
     report.expect(GATE.to_owned(), interpreted(&list, start, gate), || "the gate's line".to_owned());
@@ -80,8 +78,15 @@ fn differ(&[hw1, hw2]: &[u16; 2]) -> bool {
     lengths.windows(2).any(|two| two[0] != two[1])
 }
 
-/// Whether a pair stops at the ends of the range or halves.
-fn stops(&[hw1, hw2]: &[u16; 2]) -> bool {
+/// The list before the first pair of a sort, and from it on, where all are of that sort.
+fn split(list: &Pairs, sort: fn(&[u16; 2]) -> bool) -> (&Pairs, &Pairs) {
+    let (before, from) = list.split_at(list.iter().position(sort).unwrap_or(list.len()));
+    assert!(from.iter().all(sort), "the pairs of a sort stand together");
+    (before, from)
+}
+
+/// Whether a pair has a saturating or halving name.
+fn saturates_or_halves(&[hw1, hw2]: &[u16; 2]) -> bool {
     let name = decode(hw1, hw2, 0).expect("a pair that is read").mnemonic;
     ["vqadd", "vqsub", "vhadd", "vrhadd", "vhsub"].iter().any(|stem| name.starts_with(stem))
 }
@@ -217,7 +222,7 @@ fn exact(lane: Lane, x: u64) -> i128 {
 }
 
 /// A number, moved to the nearer end of the range when outside it.
-fn limited(lane: Lane, z: i128) -> u64 {
+fn clamped(lane: Lane, z: i128) -> u64 {
     let low = if lane.signed { -1 << (lane.width - 1) } else { 0 };
     z.clamp(low, low + (1 << lane.width) - 1) as u64
 }
@@ -248,8 +253,8 @@ fn lanes(stem: &str, lane: Lane, d: u64, n: u64, m: u64) -> Option<u64> {
         "vcge" => each(w, d, n, m, |_, n, m| ones(whole(n) >= whole(m))),
         "vceq" => each(w, d, n, m, |_, n, m| ones(n == m)),
         "vtst" => each(w, d, n, m, |_, n, m| ones(n & m != 0)),
-        "vqadd" => each(w, d, n, m, |_, n, m| limited(lane, exact(lane, n) + exact(lane, m))),
-        "vqsub" => each(w, d, n, m, |_, n, m| limited(lane, exact(lane, n) - exact(lane, m))),
+        "vqadd" => each(w, d, n, m, |_, n, m| clamped(lane, exact(lane, n) + exact(lane, m))),
+        "vqsub" => each(w, d, n, m, |_, n, m| clamped(lane, exact(lane, n) - exact(lane, m))),
         "vhadd" => each(w, d, n, m, |_, n, m| ((whole(n) + whole(m)) >> 1) as u64),
         "vrhadd" => each(w, d, n, m, |_, n, m| ((whole(n) + whole(m) + 1) >> 1) as u64),
         "vhsub" => each(w, d, n, m, |_, n, m| ((whole(n) - whole(m)) >> 1) as u64),

@@ -1,6 +1,6 @@
 -- Whole numbers as differences of two numbers from 0, which linear arithmetic reads: sums, differences and products.
 -- Assumes nothing.
-use mathlib.Core.Path.{_≡_, refl}
+use mathlib.Core.Path.{_≡_, refl, ap}
 use Prim.Native.Nat.{ℕ, zero, suc, _+_, _*_}
 use native.Mathlib.Omega.{arith}
 use lib.IntN.{ℤ, pos, negsuc, subℕ, negℤ, _+ℤ_, _-ℤ_, _*ℤ_}
@@ -47,3 +47,14 @@ times-whole (negsuc a) (negsuc b) = omega arith
 -- z is p - q
 abbrev pub Is : ℤ → ℕ → ℕ → Type 0
 Is z p q = up z + q ≡ p + down z
+
+-- a sum with 1 is not 0
+clash : (a b : ℕ) → a + (b + 1) ≡ 0 → ⊥
+clash a b h = omega arith
+
+-- numbers that are the same difference are the same
+pub same-whole : (a b : ℤ) → Is a (up b) (down b) → a ≡ b
+same-whole (pos a) (pos b) h = ap pos (omega arith)
+same-whole (pos a) (negsuc b) h = absurd (clash a b (omega arith))
+same-whole (negsuc a) (pos b) h = absurd (clash b a (omega arith))
+same-whole (negsuc a) (negsuc b) h = ap negsuc (omega arith)

@@ -11,9 +11,9 @@ use borrow.Author.Tests.{ltb-true, ltb-false}
 use Rattle.laws.proofs.Range.{values, agree, agree-from}
 use Rattle.names.specs.Names.{names, nameOf}
 use Rattle.names.proofs.Spellings.{no-name}
-use Rattle.lanes.specs.declared.LaneOp.the-variants.{Add, Sub, Mul, Mla, Mls, Max, Min, Cgt, Cge, Ceq, Tst, Limited, Halved}
-use Rattle.limits.specs.declared.LimitedOp.the-variants.{Qadd, Qsub}
-use Rattle.halves.specs.declared.HalvedOp.the-variants.{Hadd, Rhadd, Hsub}
+use Rattle.lanes.specs.declared.LaneOp.the-variants.{Add, Sub, Mul, Mla, Mls, Max, Min, Cgt, Cge, Ceq, Tst, Saturating, Halving}
+use Rattle.saturating.specs.declared.SaturatingOp.the-variants.{Qadd, Qsub}
+use Rattle.halving.specs.declared.HalvingOp.the-variants.{Hadd, Rhadd, Hsub}
 use Rattle.insn.specs.declared.Sign.the-variants.{Unsigned, Signed}
 use Rattle.insn.specs.declared.Width.the-variants.{B8, B16, B32, B64}
 use Rattle.double_lanes.specs.declared.LongOp.the-variants as long
@@ -29,12 +29,12 @@ use Rattle.forms.specs.Forms.{groups, namedForms, formOf}
 
 unfoldable pub numbered : List Form
 numbered =
-    Lanes (Halved Hadd Signed) B8 ∷ Lanes (Halved Hadd Signed) B16 ∷ Lanes (Halved Hadd Signed) B32 ∷  -- 0
-    Lanes (Limited Qadd Signed) B8 ∷ Lanes (Limited Qadd Signed) B16 ∷ Lanes (Limited Qadd Signed) B32 ∷ Lanes (Limited Qadd Signed) B64 ∷  -- 3
-    Lanes (Halved Rhadd Signed) B8 ∷ Lanes (Halved Rhadd Signed) B16 ∷ Lanes (Halved Rhadd Signed) B32 ∷  -- 7
+    Lanes (Halving Hadd Signed) B8 ∷ Lanes (Halving Hadd Signed) B16 ∷ Lanes (Halving Hadd Signed) B32 ∷  -- 0
+    Lanes (Saturating Qadd Signed) B8 ∷ Lanes (Saturating Qadd Signed) B16 ∷ Lanes (Saturating Qadd Signed) B32 ∷ Lanes (Saturating Qadd Signed) B64 ∷  -- 3
+    Lanes (Halving Rhadd Signed) B8 ∷ Lanes (Halving Rhadd Signed) B16 ∷ Lanes (Halving Rhadd Signed) B32 ∷  -- 7
     Bits And ∷ Bits Bic ∷ Bits Orr ∷ Bits Orn ∷  -- 10
-    Lanes (Halved Hsub Signed) B8 ∷ Lanes (Halved Hsub Signed) B16 ∷ Lanes (Halved Hsub Signed) B32 ∷  -- 14
-    Lanes (Limited Qsub Signed) B8 ∷ Lanes (Limited Qsub Signed) B16 ∷ Lanes (Limited Qsub Signed) B32 ∷ Lanes (Limited Qsub Signed) B64 ∷  -- 17
+    Lanes (Halving Hsub Signed) B8 ∷ Lanes (Halving Hsub Signed) B16 ∷ Lanes (Halving Hsub Signed) B32 ∷  -- 14
+    Lanes (Saturating Qsub Signed) B8 ∷ Lanes (Saturating Qsub Signed) B16 ∷ Lanes (Saturating Qsub Signed) B32 ∷ Lanes (Saturating Qsub Signed) B64 ∷  -- 17
     Lanes (Cgt Signed) B8 ∷ Lanes (Cgt Signed) B16 ∷ Lanes (Cgt Signed) B32 ∷  -- 21
     Lanes (Cge Signed) B8 ∷ Lanes (Cge Signed) B16 ∷ Lanes (Cge Signed) B32 ∷  -- 24
     Nothing ∷ Nothing ∷ Nothing ∷ Nothing ∷ Nothing ∷ Nothing ∷ Nothing ∷ Nothing ∷ Nothing ∷ Nothing ∷ Nothing ∷ Nothing ∷  -- 27
@@ -48,12 +48,12 @@ numbered =
     Lanes Mul B8 ∷ Lanes Mul B16 ∷ Lanes Mul B32 ∷  -- 65
     Nothing ∷ Nothing ∷ Nothing ∷ Nothing ∷ Nothing ∷ Nothing ∷ Nothing ∷ Nothing ∷ Nothing ∷ Nothing ∷ Nothing ∷ Nothing ∷  -- 68
     Nothing ∷ Nothing ∷ Nothing ∷ Nothing ∷ Nothing ∷ Nothing ∷ Nothing ∷ Nothing ∷ Nothing ∷ Nothing ∷  -- 80
-    Lanes (Halved Hadd Unsigned) B8 ∷ Lanes (Halved Hadd Unsigned) B16 ∷ Lanes (Halved Hadd Unsigned) B32 ∷  -- 90
-    Lanes (Limited Qadd Unsigned) B8 ∷ Lanes (Limited Qadd Unsigned) B16 ∷ Lanes (Limited Qadd Unsigned) B32 ∷ Lanes (Limited Qadd Unsigned) B64 ∷  -- 93
-    Lanes (Halved Rhadd Unsigned) B8 ∷ Lanes (Halved Rhadd Unsigned) B16 ∷ Lanes (Halved Rhadd Unsigned) B32 ∷  -- 97
+    Lanes (Halving Hadd Unsigned) B8 ∷ Lanes (Halving Hadd Unsigned) B16 ∷ Lanes (Halving Hadd Unsigned) B32 ∷  -- 90
+    Lanes (Saturating Qadd Unsigned) B8 ∷ Lanes (Saturating Qadd Unsigned) B16 ∷ Lanes (Saturating Qadd Unsigned) B32 ∷ Lanes (Saturating Qadd Unsigned) B64 ∷  -- 93
+    Lanes (Halving Rhadd Unsigned) B8 ∷ Lanes (Halving Rhadd Unsigned) B16 ∷ Lanes (Halving Rhadd Unsigned) B32 ∷  -- 97
     Bits Eor ∷ Bits Bsl ∷ Bits Bit ∷ Bits Bif ∷  -- 100
-    Lanes (Halved Hsub Unsigned) B8 ∷ Lanes (Halved Hsub Unsigned) B16 ∷ Lanes (Halved Hsub Unsigned) B32 ∷  -- 104
-    Lanes (Limited Qsub Unsigned) B8 ∷ Lanes (Limited Qsub Unsigned) B16 ∷ Lanes (Limited Qsub Unsigned) B32 ∷ Lanes (Limited Qsub Unsigned) B64 ∷  -- 107
+    Lanes (Halving Hsub Unsigned) B8 ∷ Lanes (Halving Hsub Unsigned) B16 ∷ Lanes (Halving Hsub Unsigned) B32 ∷  -- 104
+    Lanes (Saturating Qsub Unsigned) B8 ∷ Lanes (Saturating Qsub Unsigned) B16 ∷ Lanes (Saturating Qsub Unsigned) B32 ∷ Lanes (Saturating Qsub Unsigned) B64 ∷  -- 107
     Lanes (Cgt Unsigned) B8 ∷ Lanes (Cgt Unsigned) B16 ∷ Lanes (Cgt Unsigned) B32 ∷  -- 111
     Lanes (Cge Unsigned) B8 ∷ Lanes (Cge Unsigned) B16 ∷ Lanes (Cge Unsigned) B32 ∷  -- 114
     Nothing ∷ Nothing ∷ Nothing ∷ Nothing ∷ Nothing ∷ Nothing ∷ Nothing ∷ Nothing ∷ Nothing ∷ Nothing ∷ Nothing ∷ Nothing ∷  -- 117

@@ -4,9 +4,9 @@ use mathlib.Core.List.{List, [], _∷_, _++_}
 use Prim.Native.String.{String}
 use lib.Text.{eqt}
 use Rattle.laws.specs.Choice.{choose}
-use Rattle.lanes.specs.declared.LaneOp.the-variants.{Add, Sub, Mul, Mla, Mls, Max, Min, Cgt, Cge, Ceq, Tst, Limited, Halved}
-use Rattle.limits.specs.declared.LimitedOp.the-variants.{Qadd, Qsub}
-use Rattle.halves.specs.declared.HalvedOp.the-variants.{Hadd, Rhadd, Hsub}
+use Rattle.lanes.specs.declared.LaneOp.the-variants.{Add, Sub, Mul, Mla, Mls, Max, Min, Cgt, Cge, Ceq, Tst, Saturating, Halving}
+use Rattle.saturating.specs.declared.SaturatingOp.the-variants.{Qadd, Qsub}
+use Rattle.halving.specs.declared.HalvingOp.the-variants.{Hadd, Rhadd, Hsub}
 use Rattle.insn.specs.declared.Sign.the-variants.{Unsigned, Signed}
 use Rattle.insn.specs.declared.Width.{Width}
 use Rattle.insn.specs.declared.Width.the-variants.{B8, B16, B32, B64}
@@ -61,16 +61,16 @@ groups =
     to32 (Lanes (Cge Unsigned)) "vcge.u8" "vcge.u16" "vcge.u32" ∷
     to32 (Lanes Ceq) "vceq.i8" "vceq.i16" "vceq.i32" ∷
     to32 (Lanes Tst) "vtst.8" "vtst.16" "vtst.32" ∷
-    to64 (Lanes (Limited Qadd Signed)) "vqadd.s8" "vqadd.s16" "vqadd.s32" "vqadd.s64" ∷
-    to64 (Lanes (Limited Qadd Unsigned)) "vqadd.u8" "vqadd.u16" "vqadd.u32" "vqadd.u64" ∷
-    to64 (Lanes (Limited Qsub Signed)) "vqsub.s8" "vqsub.s16" "vqsub.s32" "vqsub.s64" ∷
-    to64 (Lanes (Limited Qsub Unsigned)) "vqsub.u8" "vqsub.u16" "vqsub.u32" "vqsub.u64" ∷
-    to32 (Lanes (Halved Hadd Signed)) "vhadd.s8" "vhadd.s16" "vhadd.s32" ∷
-    to32 (Lanes (Halved Hadd Unsigned)) "vhadd.u8" "vhadd.u16" "vhadd.u32" ∷
-    to32 (Lanes (Halved Rhadd Signed)) "vrhadd.s8" "vrhadd.s16" "vrhadd.s32" ∷
-    to32 (Lanes (Halved Rhadd Unsigned)) "vrhadd.u8" "vrhadd.u16" "vrhadd.u32" ∷
-    to32 (Lanes (Halved Hsub Signed)) "vhsub.s8" "vhsub.s16" "vhsub.s32" ∷
-    to32 (Lanes (Halved Hsub Unsigned)) "vhsub.u8" "vhsub.u16" "vhsub.u32" ∷
+    to64 (Lanes (Saturating Qadd Signed)) "vqadd.s8" "vqadd.s16" "vqadd.s32" "vqadd.s64" ∷
+    to64 (Lanes (Saturating Qadd Unsigned)) "vqadd.u8" "vqadd.u16" "vqadd.u32" "vqadd.u64" ∷
+    to64 (Lanes (Saturating Qsub Signed)) "vqsub.s8" "vqsub.s16" "vqsub.s32" "vqsub.s64" ∷
+    to64 (Lanes (Saturating Qsub Unsigned)) "vqsub.u8" "vqsub.u16" "vqsub.u32" "vqsub.u64" ∷
+    to32 (Lanes (Halving Hadd Signed)) "vhadd.s8" "vhadd.s16" "vhadd.s32" ∷
+    to32 (Lanes (Halving Hadd Unsigned)) "vhadd.u8" "vhadd.u16" "vhadd.u32" ∷
+    to32 (Lanes (Halving Rhadd Signed)) "vrhadd.s8" "vrhadd.s16" "vrhadd.s32" ∷
+    to32 (Lanes (Halving Rhadd Unsigned)) "vrhadd.u8" "vrhadd.u16" "vrhadd.u32" ∷
+    to32 (Lanes (Halving Hsub Signed)) "vhsub.s8" "vhsub.s16" "vhsub.s32" ∷
+    to32 (Lanes (Halving Hsub Unsigned)) "vhsub.u8" "vhsub.u16" "vhsub.u32" ∷
     to64 (Shift way.Left) "vshl.i8" "vshl.i16" "vshl.i32" "vshl.i64" ∷
     to64 (Shift (way.Right Unsigned)) "vshr.u8" "vshr.u16" "vshr.u32" "vshr.u64" ∷
     to64 (Shift (way.Right Signed)) "vshr.s8" "vshr.s16" "vshr.s32" "vshr.s64" ∷

@@ -37,8 +37,8 @@ at-suc : (w i x : ℕ) → laneAt w (suc i) x ≡ laneAt w i (x / 2 ^ w)
 at-suc w i x = rw (mul-suc, add-comm, ← shr-shr)
 
 -- what is the same gives the same
-pub alike : (f : ℕ → ℕ → ℕ → ℕ) {d e n o m p : ℕ} → d ≡ e → n ≡ o → m ≡ p → f d n m ≡ f e o p
-alike f a b c = rw (a, b, c)
+pub same-result : (f : ℕ → ℕ → ℕ → ℕ) {d e n o m p : ℕ} → d ≡ e → n ≡ o → m ≡ p → f d n m ≡ f e o p
+same-result f a b c = rw (a, b, c)
 
 module _ (f : ℕ → ℕ → ℕ → ℕ) (wd wn wm : ℕ) where
   -- lanes on both sides of a lane boundary are taken apart there

@@ -7,13 +7,13 @@ use lib.Pow.{pow-mono}
 use Rattle.laws.specs.Signed.{twosComplement, modulo}
 use Rattle.laws.proofs.Signed.{modulo-lt}
 use Rattle.arithmetic.specs.Whole.{readAs, greater, lesser, onesIf}
-use Rattle.limits.specs.Range.{lowest, highest, clamp, exactLimited}
-use Rattle.limits.proofs.Promises.{movedWithin, withinRead}
-use Rattle.halves.specs.Half.{half}
+use Rattle.saturating.specs.Range.{lowest, highest, clamp, exactSaturating}
+use Rattle.saturating.proofs.Promises.{movedWithin, withinRead}
+use Rattle.halving.specs.Half.{half}
 use Rattle.lanes.specs.Lane.{exact, laneOf, lanewise, lanesOf}
 use Rattle.insn.specs.Widths.{sizeOf, bitsOf}
 use Rattle.insn.proofs.Sizes.{size-le, lanes}
-use Rattle.lanes.specs.Promises.{EachLane, Split, LaneBelow, LanesBelow, ReadBack, LimitedRead, Worked, WorkedLimits, RowByHalves}
+use Rattle.lanes.specs.Promises.{EachLane, Split, LaneBelow, LanesBelow, ReadBack, SaturatingRead, Worked, WorkedEnds, RowByHalves}
 use Rattle.arithmetic.proofs.Signs as signs
 use Rattle.lanes.proofs.Lanewise as laws
 
@@ -43,15 +43,15 @@ lanesBelow size op w d n m =
 pub readBack : ReadBack
 readBack = signs.again
 
-pub limitedRead : LimitedRead
+pub saturatingRead : SaturatingRead
 unfolding laneOf
-limitedRead op s w d n m l =
-    let z = exactLimited op (readAs s w n) (readAs s w m) in
+saturatingRead op s w d n m l =
+    let z = exactSaturating op (readAs s w n) (readAs s w m) in
     withinRead s w (clamp s w z) l (movedWithin s w z)
 
-pub workedLimits : WorkedLimits
+pub workedEnds : WorkedEnds
 unfolding twosComplement readAs modulo lowest highest clamp half laneOf
-workedLimits =
+workedEnds =
     (refl, refl, refl, refl, refl, refl, refl, refl, refl, refl, refl, refl, refl, refl, refl, refl, refl, refl, refl, refl, refl, refl, refl, refl)
 
 pub worked : Worked

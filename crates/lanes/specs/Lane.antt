@@ -11,13 +11,14 @@ use Rattle.laws.specs.Signed.{modulo}
 use Rattle.insn.specs.declared.Width.{Width}
 use Rattle.insn.specs.Widths.{bitsOf}
 use Rattle.arithmetic.specs.Whole.{readAs, greater, lesser, onesIf}
-use Rattle.limits.specs.Range.{clamp, exactLimited}
-use Rattle.halves.specs.Half.{exactHalved}
+use Rattle.saturating.specs.Range.{clamp, exactSaturating}
+use Rattle.halving.specs.Half.{exactHalving}
 use Rattle.lanes.specs.declared.LaneOp.{LaneOp}
-use Rattle.lanes.specs.declared.LaneOp.the-variants.{Add, Sub, Mul, Mla, Mls, Max, Min, Cgt, Cge, Ceq, Tst, Shl, Shr, Limited, Halved}
+use Rattle.lanes.specs.declared.LaneOp.the-variants.{Add, Sub, Mul, Mla, Mls, Max, Min, Cgt, Cge, Ceq, Tst, Shl, Shr, Saturating, Halving}
 
--- The exact whole number for a lane: d is the old target's lane, n and m are the sources'. A shift reads n alone.
--- shrZ rounds down, so a right shift by w or more gives 0, or -1 for a negative lane. A limited one is moved into its range.
+-- The whole number for a lane: exact, but moved to an end of the range where a saturating one is outside it. d is the old
+-- target's lane, n and m are the sources'. A shift reads n alone. shrZ rounds down, so a right shift by w or more gives 0,
+-- or -1 for a negative lane.
 abbrev pub exact : LaneOp → ℕ → ℕ → ℕ → ℕ → ℤ
 exact Add w d n m = pos n +ℤ pos m
 exact Sub w d n m = pos n -ℤ pos m
@@ -32,8 +33,8 @@ exact Ceq w d n m = onesIf (eqb n m) w
 exact Tst w d n m = onesIf (not (eqb (bitAnd n m) 0)) w
 exact (Shl k) w d n m = pos n *ℤ pos (2 ^ k)
 exact (Shr s k) w d n m = shrZ (readAs s w n) (2 ^ k)
-exact (Limited op s) w d n m = clamp s w (exactLimited op (readAs s w n) (readAs s w m))
-exact (Halved op s) w d n m = exactHalved op (readAs s w n) (readAs s w m)
+exact (Saturating op s) w d n m = clamp s w (exactSaturating op (readAs s w n) (readAs s w m))
+exact (Halving op s) w d n m = exactHalving op (readAs s w n) (readAs s w m)
 
 -- the lane that is left of it
 unfoldable pub laneOf : LaneOp → ℕ → ℕ → ℕ → ℕ → ℕ

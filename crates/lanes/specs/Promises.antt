@@ -7,11 +7,11 @@ use Rattle.insn.specs.declared.Width.the-variants.{B16}
 use Rattle.insn.specs.declared.Sign.{Sign}
 use Rattle.insn.specs.declared.Sign.the-variants.{Unsigned, Signed}
 use Rattle.lanes.specs.declared.LaneOp.{LaneOp}
-use Rattle.lanes.specs.declared.LaneOp.the-variants.{Add, Sub, Mul, Mla, Mls, Max, Min, Cgt, Cge, Ceq, Tst, Shl, Shr, Limited, Halved}
-use Rattle.limits.specs.declared.LimitedOp.{LimitedOp}
-use Rattle.limits.specs.declared.LimitedOp.the-variants.{Qadd, Qsub}
-use Rattle.limits.specs.Range.{clamp, exactLimited}
-use Rattle.halves.specs.declared.HalvedOp.the-variants.{Hadd, Rhadd, Hsub}
+use Rattle.lanes.specs.declared.LaneOp.the-variants.{Add, Sub, Mul, Mla, Mls, Max, Min, Cgt, Cge, Ceq, Tst, Shl, Shr, Saturating, Halving}
+use Rattle.saturating.specs.declared.SaturatingOp.{SaturatingOp}
+use Rattle.saturating.specs.declared.SaturatingOp.the-variants.{Qadd, Qsub}
+use Rattle.saturating.specs.Range.{clamp, exactSaturating}
+use Rattle.halving.specs.declared.HalvingOp.the-variants.{Hadd, Rhadd, Hsub}
 use Rattle.arithmetic.specs.Whole.{readAs}
 use Rattle.lanes.specs.Lane.{laneOf, lanewise, lanesOf}
 use Rattle.laws.specs.Signed.{modulo}
@@ -50,11 +50,11 @@ LanesBelow = (size : ℕ) (op : LaneOp) (w : Width) (d n m : ℕ) → lanesOf si
 abbrev pub ReadBack : Type 0
 ReadBack = (s : Sign) (w x : ℕ) → x < 2 ^ w → modulo w (readAs s w x) ≡ x
 
--- what stops at the ends of the range: the lane, read by its sign, is the exact result, moved to the nearer end when outside
-abbrev pub LimitedRead : Type 0
-LimitedRead =
-    (op : LimitedOp) (s : Sign) (w d n m : ℕ) → 0 < w
-    → readAs s w (laneOf (Limited op s) w d n m) ≡ clamp s w (exactLimited op (readAs s w n) (readAs s w m))
+-- the lane of a saturating operation, read by its sign, is the exact result, moved to the nearer end when outside the range
+abbrev pub SaturatingRead : Type 0
+SaturatingRead =
+    (op : SaturatingOp) (s : Sign) (w d n m : ℕ) → 0 < w
+    → readAs s w (laneOf (Saturating op s) w d n m) ≡ clamp s w (exactSaturating op (readAs s w n) (readAs s w m))
 
 -- worked lanes, the ends of the ranges among them
 abbrev pub Worked : Type 0
@@ -79,29 +79,29 @@ Worked =
     × (lanesOf 64 Add B16 0 0xffff_8000_0001_1234 0x0001_8000_0001_0001 ≡ 0x0000_0000_0002_1235)
 
 -- sums and differences that stop at the ends, at 8 and at 64 bits, and halves that are rounded down
-abbrev pub WorkedLimits : Type 0
-WorkedLimits =
-    (laneOf (Limited Qadd Unsigned) 8 0 200 56 ≡ 255)
-    × (laneOf (Limited Qadd Unsigned) 8 0 200 55 ≡ 255)
-    × (laneOf (Limited Qadd Unsigned) 8 0 200 54 ≡ 254)
-    × (laneOf (Limited Qadd Signed) 8 0 100 28 ≡ 127)
-    × (laneOf (Limited Qadd Signed) 8 0 100 27 ≡ 127)
-    × (laneOf (Limited Qadd Signed) 8 0 128 255 ≡ 128)
-    × (laneOf (Limited Qadd Signed) 8 0 128 127 ≡ 255)
-    × (laneOf (Limited Qsub Unsigned) 8 0 1 2 ≡ 0)
-    × (laneOf (Limited Qsub Signed) 8 0 127 255 ≡ 127)
-    × (laneOf (Limited Qsub Signed) 8 0 128 1 ≡ 128)
-    × (laneOf (Limited Qsub Signed) 8 0 0 128 ≡ 127)
-    × (laneOf (Limited Qadd Unsigned) 64 0 0xffff_ffff_ffff_ffff 1 ≡ 0xffff_ffff_ffff_ffff)
-    × (laneOf (Limited Qadd Signed) 64 0 0x7fff_ffff_ffff_ffff 1 ≡ 0x7fff_ffff_ffff_ffff)
-    × (laneOf (Limited Qadd Signed) 64 0 0x8000_0000_0000_0000 0x8000_0000_0000_0000 ≡ 0x8000_0000_0000_0000)
-    × (laneOf (Limited Qsub Unsigned) 64 0 0 0xffff_ffff_ffff_ffff ≡ 0)
-    × (laneOf (Limited Qsub Signed) 64 0 0 0x8000_0000_0000_0000 ≡ 0x7fff_ffff_ffff_ffff)
-    × (laneOf (Halved Hadd Unsigned) 8 0 255 254 ≡ 254)
-    × (laneOf (Halved Hadd Signed) 8 0 255 254 ≡ 254)
-    × (laneOf (Halved Hadd Signed) 8 0 255 0 ≡ 255)
-    × (laneOf (Halved Rhadd Unsigned) 8 0 255 254 ≡ 255)
-    × (laneOf (Halved Rhadd Signed) 8 0 255 0 ≡ 0)
-    × (laneOf (Halved Hsub Unsigned) 8 0 0 1 ≡ 255)
-    × (laneOf (Halved Hsub Signed) 8 0 128 127 ≡ 128)
-    × (laneOf (Halved Hsub Signed) 8 0 0 1 ≡ 255)
+abbrev pub WorkedEnds : Type 0
+WorkedEnds =
+    (laneOf (Saturating Qadd Unsigned) 8 0 200 56 ≡ 255)
+    × (laneOf (Saturating Qadd Unsigned) 8 0 200 55 ≡ 255)
+    × (laneOf (Saturating Qadd Unsigned) 8 0 200 54 ≡ 254)
+    × (laneOf (Saturating Qadd Signed) 8 0 100 28 ≡ 127)
+    × (laneOf (Saturating Qadd Signed) 8 0 100 27 ≡ 127)
+    × (laneOf (Saturating Qadd Signed) 8 0 128 255 ≡ 128)
+    × (laneOf (Saturating Qadd Signed) 8 0 128 127 ≡ 255)
+    × (laneOf (Saturating Qsub Unsigned) 8 0 1 2 ≡ 0)
+    × (laneOf (Saturating Qsub Signed) 8 0 127 255 ≡ 127)
+    × (laneOf (Saturating Qsub Signed) 8 0 128 1 ≡ 128)
+    × (laneOf (Saturating Qsub Signed) 8 0 0 128 ≡ 127)
+    × (laneOf (Saturating Qadd Unsigned) 64 0 0xffff_ffff_ffff_ffff 1 ≡ 0xffff_ffff_ffff_ffff)
+    × (laneOf (Saturating Qadd Signed) 64 0 0x7fff_ffff_ffff_ffff 1 ≡ 0x7fff_ffff_ffff_ffff)
+    × (laneOf (Saturating Qadd Signed) 64 0 0x8000_0000_0000_0000 0x8000_0000_0000_0000 ≡ 0x8000_0000_0000_0000)
+    × (laneOf (Saturating Qsub Unsigned) 64 0 0 0xffff_ffff_ffff_ffff ≡ 0)
+    × (laneOf (Saturating Qsub Signed) 64 0 0 0x8000_0000_0000_0000 ≡ 0x7fff_ffff_ffff_ffff)
+    × (laneOf (Halving Hadd Unsigned) 8 0 255 254 ≡ 254)
+    × (laneOf (Halving Hadd Signed) 8 0 255 254 ≡ 254)
+    × (laneOf (Halving Hadd Signed) 8 0 255 0 ≡ 255)
+    × (laneOf (Halving Rhadd Unsigned) 8 0 255 254 ≡ 255)
+    × (laneOf (Halving Rhadd Signed) 8 0 255 0 ≡ 0)
+    × (laneOf (Halving Hsub Unsigned) 8 0 0 1 ≡ 255)
+    × (laneOf (Halving Hsub Signed) 8 0 128 127 ≡ 128)
+    × (laneOf (Halving Hsub Signed) 8 0 0 1 ≡ 255)

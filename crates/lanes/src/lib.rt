@@ -11,19 +11,19 @@ use arithmetic::whole::greatest;
 use arithmetic::whole::least;
 use arithmetic::whole::less;
 use arithmetic::whole::right;
-use halves::HalvedOp;
-use halves::halved;
+use halving::HalvingOp;
+use halving::halved;
 use insn::Sign;
 use insn::Width;
 use insn::widths::bits;
-use limits::LimitedOp;
-use limits::limited;
+use saturating::SaturatingOp;
+use saturating::saturated;
 ghost use mathlib.Core.Path.{_≡_};
 ghost use Prim.Native.Nat.{_+_, _-_, _*_, _/_, _%_, _^_, _<_, _≤_};
 ghost use Rattle.lanes.specs.Lane.{laneOf, lanesOf};
 
-// A lane operation, by its instruction's name. A shift carries its amount, and reads n alone; what stops at the ends of the
-// range, and what is halved, carries its own operation.
+// A lane operation, by its instruction's name. A shift carries its amount, and reads n alone; a saturating or halving one
+// carries which it is.
 pub enum LaneOp {
     Add,
     Sub,
@@ -38,8 +38,8 @@ pub enum LaneOp {
     Tst,
     Shl(u32),
     Shr(Sign, u32),
-    Limited(LimitedOp, Sign),
-    Halved(HalvedOp, Sign),
+    Saturating(SaturatingOp, Sign),
+    Halving(HalvingOp, Sign),
 }
 
 // One operation on one lane of w bits: d of the old target, n and m of the sources.
@@ -61,8 +61,8 @@ fn lane(op: LaneOp, w: u32, d: u64, n: u64, m: u64) -> u64
         LaneOp::Tst => ones_if(w, n & m != 0),
         LaneOp::Shl(k) => left(w, n, k),
         LaneOp::Shr(s, k) => right(s, w, n, k),
-        LaneOp::Limited(o, s) => limited(o, s, w, n, m),
-        LaneOp::Halved(o, s) => halved(o, s, w, n, m),
+        LaneOp::Saturating(o, s) => saturated(o, s, w, n, m),
+        LaneOp::Halving(o, s) => halved(o, s, w, n, m),
     }
 }
 

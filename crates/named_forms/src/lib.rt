@@ -9,15 +9,15 @@ use double_forms::lower_double;
 use double_forms::upper_double;
 use forms::Direction;
 use forms::Form;
-use halves::HalvedOp;
+use halving::HalvingOp;
 use insn::Sign;
 use insn::Width;
 use insn::widths::width_at;
 use lanes::LaneOp;
-use limits::LimitedOp;
 use names::VMOV;
 use operations::BitOp;
 use operations::ConstantOp;
+use saturating::SaturatingOp;
 
 // The form of a lane operation at the width k.
 fn lanes_at(op: LaneOp, k: u16) -> Form
@@ -32,15 +32,15 @@ fn lower_form(m: u16) -> Form
     ensures { λ r. ⌜ r ≡ formOf (nameOf m) ⌝ }
 {
     match m {
-        0..=2 => lanes_at(LaneOp::Halved(HalvedOp::Hadd, Sign::Signed), m),
-        3..=6 => lanes_at(LaneOp::Limited(LimitedOp::Qadd, Sign::Signed), m - 3),
-        7..=9 => lanes_at(LaneOp::Halved(HalvedOp::Rhadd, Sign::Signed), m - 7),
+        0..=2 => lanes_at(LaneOp::Halving(HalvingOp::Hadd, Sign::Signed), m),
+        3..=6 => lanes_at(LaneOp::Saturating(SaturatingOp::Qadd, Sign::Signed), m - 3),
+        7..=9 => lanes_at(LaneOp::Halving(HalvingOp::Rhadd, Sign::Signed), m - 7),
         10 => Form::Bits(BitOp::And),
         11 => Form::Bits(BitOp::Bic),
         12 => Form::Bits(BitOp::Orr),
         13 => Form::Bits(BitOp::Orn),
-        14..=16 => lanes_at(LaneOp::Halved(HalvedOp::Hsub, Sign::Signed), m - 14),
-        17..=20 => lanes_at(LaneOp::Limited(LimitedOp::Qsub, Sign::Signed), m - 17),
+        14..=16 => lanes_at(LaneOp::Halving(HalvingOp::Hsub, Sign::Signed), m - 14),
+        17..=20 => lanes_at(LaneOp::Saturating(SaturatingOp::Qsub, Sign::Signed), m - 17),
         21..=23 => lanes_at(LaneOp::Cgt(Sign::Signed), m - 21),
         24..=26 => lanes_at(LaneOp::Cge(Sign::Signed), m - 24),
         27..=42 => Form::Nothing,
@@ -52,9 +52,12 @@ fn lower_form(m: u16) -> Form
         62..=64 => lanes_at(LaneOp::Mla, m - 62),
         65..=67 => lanes_at(LaneOp::Mul, m - 65),
         68..=89 => Form::Nothing,
-        90..=92 => lanes_at(LaneOp::Halved(HalvedOp::Hadd, Sign::Unsigned), m - 90),
-        93..=96 => lanes_at(LaneOp::Limited(LimitedOp::Qadd, Sign::Unsigned), m - 93),
-        _ => lanes_at(LaneOp::Halved(HalvedOp::Rhadd, Sign::Unsigned), m - 97),
+        90..=92 => lanes_at(LaneOp::Halving(HalvingOp::Hadd, Sign::Unsigned), m - 90),
+        93..=96 => lanes_at(
+            LaneOp::Saturating(SaturatingOp::Qadd, Sign::Unsigned),
+            m - 93,
+        ),
+        _ => lanes_at(LaneOp::Halving(HalvingOp::Rhadd, Sign::Unsigned), m - 97),
     }
 }
 
@@ -68,8 +71,11 @@ fn upper_form(m: u16) -> Form
         101 => Form::Bits(BitOp::Bsl),
         102 => Form::Bits(BitOp::Bit),
         103 => Form::Bits(BitOp::Bif),
-        104..=106 => lanes_at(LaneOp::Halved(HalvedOp::Hsub, Sign::Unsigned), m - 104),
-        107..=110 => lanes_at(LaneOp::Limited(LimitedOp::Qsub, Sign::Unsigned), m - 107),
+        104..=106 => lanes_at(LaneOp::Halving(HalvingOp::Hsub, Sign::Unsigned), m - 104),
+        107..=110 => lanes_at(
+            LaneOp::Saturating(SaturatingOp::Qsub, Sign::Unsigned),
+            m - 107,
+        ),
         111..=113 => lanes_at(LaneOp::Cgt(Sign::Unsigned), m - 111),
         114..=116 => lanes_at(LaneOp::Cge(Sign::Unsigned), m - 114),
         117..=132 => Form::Nothing,

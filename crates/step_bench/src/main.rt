@@ -1,8 +1,8 @@
 // Steps a list of pairs on one file, round after round, for tools/compare to time.
 // Standard input has D0 to D31 at the start and then the list, which goes to its end: 32 lines of a doubleword and at
-// most 255 of two halfwords, in hexadecimal. The gate's has every operation at every width once, the 114 with registers of
-// one length first. The argument says how many rounds; the one line that is written says how many pairs were done and
-// what the registers add up to.
+// most 255 of two halfwords, in hexadecimal. The gate's has every operation at every width once: 80 with registers of one
+// length, then the 34 saturating and halving ones, then 63 with registers of different lengths. The argument says how
+// many rounds; the one line that is written says how many pairs were done and what the registers add up to.
 use libc::STDIN_FILENO;
 use libc::STDOUT_FILENO;
 use machine::Outcome;

@@ -64,5 +64,5 @@ lane-spec =
     (λ c. rw (c .before .enum-told7 .given .1) (c .ones-if4 .ensures))
     (λ c. rw (c .before .before .op5 .given .1) (c .left .ensures))
     (λ c. rw (c .before .before .op6 .given .1) (c .right .ensures))
-    (λ c. rw (c .before .before .op7 .given .1) (c .limited .ensures))
+    (λ c. rw (c .before .before .op7 .given .1) (c .saturated .ensures))
     (λ c. rw (c .before .before .op8 .given .1) (c .halved .ensures)))

@@ -8,7 +8,7 @@ use lib.Pow.{pow-pos}
 use borrow.Author.Needs.{needs}
 use Rattle.arithmetic.proofs.Numbers.{placed, placed-fits}
 use Rattle.lanes.specs.Lane.{laneOf}
-use Rattle.lanes.proofs.Lanewise.{alike}
+use Rattle.lanes.proofs.Lanewise.{same-result}
 use Rattle.lanes.proofs.Promises.{laneBelow}
 use Rattle.lanes.proofs.place.Statement.{statement}
 use Rattle.lanes.proofs.place.Tie as tie
@@ -36,4 +36,4 @@ place-spec =
     ap (λ (n : ℕ). a .out + n)
     (placed (a .w) (a .at) (c .lane .result) (omega arith) (below c)
     ∙ ap (λ (n : ℕ). 2 ^ a .at * n)
-    (c .lane .ensures ∙ alike (laneOf (a .op) (a .w)) (c .before .before .before .cut .ensures) (c .before .before .cut2 .ensures) (c .before .cut3 .ensures)))))
+    (c .lane .ensures ∙ same-result (laneOf (a .op) (a .w)) (c .before .before .before .cut .ensures) (c .before .before .cut2 .ensures) (c .before .cut3 .ensures)))))

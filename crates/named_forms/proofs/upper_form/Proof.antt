@@ -5,9 +5,9 @@ use Prim.Native.Nat.{ℕ, _-_}
 use native.Mathlib.Omega.{arith}
 use borrow.Author.Needs.{needs}
 use Rattle.laws.proofs.Range.{values}
-use Rattle.limits.specs.declared.LimitedOp.the-variants.{Qsub}
-use Rattle.halves.specs.declared.HalvedOp.the-variants.{Hsub}
-use Rattle.lanes.specs.declared.LaneOp.the-variants.{Sub, Mls, Max, Min, Cgt, Cge, Ceq, Limited, Halved}
+use Rattle.saturating.specs.declared.SaturatingOp.the-variants.{Qsub}
+use Rattle.halving.specs.declared.HalvingOp.the-variants.{Hsub}
+use Rattle.lanes.specs.declared.LaneOp.the-variants.{Sub, Mls, Max, Min, Cgt, Cge, Ceq, Saturating, Halving}
 use Rattle.insn.specs.declared.Sign.the-variants.{Unsigned}
 use Rattle.insn.specs.Widths.{widthAt}
 use Rattle.forms.specs.declared.Form.the-variants.{Lanes, Bits, Nothing}
@@ -36,8 +36,8 @@ upper-form-spec =
     (λ c. one 103 refl (c .match .keys3))
     (λ c. stretch (λ (m : ℕ). Bits Eor) (c .before .before .before .pre .0) (c .if2 .taken) refl)
     (λ c. let r = c .before .before .before .before .match .rest in
-    c .lanes-at .ensures ∙ stretch (λ (m : ℕ). Lanes (Halved Hsub Unsigned) (widthAt (m - 104))) (above (above (above (c .before .before .if2 .left) (r .0 .0 .1)) (r .0 .1)) (r .1)) (c .before .if3 .taken) refl)
-    (λ c. c .lanes-at2 .ensures ∙ stretch (λ (m : ℕ). Lanes (Limited Qsub Unsigned) (widthAt (m - 107))) (c .before .before .if3 .left) (c .before .if4 .taken) refl)
+    c .lanes-at .ensures ∙ stretch (λ (m : ℕ). Lanes (Halving Hsub Unsigned) (widthAt (m - 104))) (above (above (above (c .before .before .if2 .left) (r .0 .0 .1)) (r .0 .1)) (r .1)) (c .before .if3 .taken) refl)
+    (λ c. c .lanes-at2 .ensures ∙ stretch (λ (m : ℕ). Lanes (Saturating Qsub Unsigned) (widthAt (m - 107))) (c .before .before .if3 .left) (c .before .if4 .taken) refl)
     (λ c. c .lanes-at3 .ensures ∙ stretch (λ (m : ℕ). Lanes (Cgt Unsigned) (widthAt (m - 111))) (c .before .before .if4 .left) (c .before .if5 .taken) refl)
     (λ c. c .lanes-at4 .ensures ∙ stretch (λ (m : ℕ). Lanes (Cge Unsigned) (widthAt (m - 114))) (c .before .before .if5 .left) (c .before .if6 .taken) refl)
     (λ c. stretch (λ (m : ℕ). Nothing) (c .before .if6 .left) (c .if7 .taken) refl)
