@@ -43,11 +43,14 @@ uint32_t bodlixo_read(uint32_t edition, uint16_t hw1, uint16_t hw2, uint32_t add
    pair has; the bits of a not-a-number stand for a not-a-number. */
 uint32_t bodlixo_write(uint32_t edition, const uint64_t record[10], uint16_t pair[2]);
 
-/* Runs the pairs of `len` halfwords, from the pair `start` on, at most `budget` of them, on a file of 32 doublewords.
-   `*executed` is always set: the pairs executed, whose effect the file has. After 15 a call from start + *executed
-   goes on. */
+/* Runs the pairs of `len` halfwords, from the pair `start` on, at most `budget` of them, on a file of 32 doublewords
+   and a mark, the manual's cumulative saturation bit: 0 is no, and any other `*mark` that comes in is yes; 0 or 1 comes
+   out. A pair turns it yes exactly when it moves a lane of a vqadd or vqsub to an end of the lane's range, and none turns
+   it back. `*executed` is always set: the pairs executed, whose effect file and mark have. After 0 or 15 a call from
+   start + *executed, with that file and mark, goes on: the two end as one call with both budgets added does, and their
+   counts add up to its. */
 uint32_t bodlixo_run(const uint16_t *code, size_t len, uint64_t start, uint64_t *file, size_t file_len, uint64_t budget,
-                     uint64_t *executed);
+                     uint8_t *mark, uint64_t *executed);
 
 /* Translates a sum sheet of `len` bytes into `out`. `*at` is the pair count; or, after a refusal, which leaves `out`
    untouched, the index of the step where the refusal has one, else 0. 10240 halfwords are always enough. */
@@ -55,9 +58,10 @@ uint32_t bodlixo_translate(const uint8_t *sheet, size_t len, uint16_t *out, size
 
 /* Translates a sum sheet into `out`, and runs its pairs on `file` from the first. A sheet that is refused leaves `out`
    and `file` untouched, with `*executed` 0. `*at` is as in bodlixo_translate, and `*executed` as in bodlixo_run. Row r
-   of the sheet is file[2 * r], low, and file[2 * r + 1]. */
+   of the sheet is file[2 * r], low, and file[2 * r + 1]. No pair of a sheet moves a lane to an end: `*mark` comes out as
+   it came in, as 0 or 1, whatever the answer. */
 uint32_t bodlixo_evaluate(const uint8_t *sheet, size_t len, uint16_t *out, size_t out_len, uint64_t *file,
-                          size_t file_len, uint64_t budget, uint64_t *executed, uint64_t *at);
+                          size_t file_len, uint64_t budget, uint8_t *mark, uint64_t *executed, uint64_t *at);
 
 /* Lists the pairs of `len` bytes in `out`, with the totals as the last line, and puts the listing's size in bytes in
    *size. An out that is shorter than the listing is left untouched, and the answer is 14 with *size 0; 901190 bytes are

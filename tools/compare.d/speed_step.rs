@@ -106,18 +106,20 @@ fn stepped(program: &str, list: &Pairs, start: [u64; 32], times: usize) -> Strin
 /// The line that it has to write.
 fn interpreted(list: &Pairs, start: [u64; 32], times: usize) -> String {
     let mut file = start;
+    let mut mark = false;
     let mut done = 0;
     for _ in 0..times {
         for &[hw1, hw2] in black_box(list) {
-            done += usize::from(step(&mut file, hw1, hw2).is_some());
+            done += usize::from(step(&mut file, &mut mark, hw1, hw2).is_some());
         }
     }
     let sum = file.iter().fold(0, |sum: u64, &x| sum.wrapping_add(x));
-    format!("{done} pairs, registers {sum}\n")
+    format!("{done} pairs, registers {sum}, mark {}\n", u8::from(mark))
 }
 
-/// One pair on the registers; none where it has no meaning, and then nothing is written.
-fn step(file: &mut [u64; 32], hw1: u16, hw2: u16) -> Option<()> {
+/// One pair on the registers and the saturation mark; none where it has no meaning, and then nothing
+/// is written.
+fn step(file: &mut [u64; 32], mark: &mut bool, hw1: u16, hw2: u16) -> Option<()> {
     let insn = decode(hw1, hw2, 0)?;
     let (stem, kind) = insn.mnemonic.split_once('.').unwrap_or((insn.mnemonic, ""));
     let lane = lane(kind);
@@ -137,7 +139,7 @@ fn step(file: &mut [u64; 32], hw1: u16, hw2: u16) -> Option<()> {
             (_, None) => source(n?),
             (_, Some(Operand::Imm(k))) => shifted(stem, lane?, source(n?), k as u32)?,
             (_, Some(_)) if kind.is_empty() => bitwise(stem, old, source(n?), source(m?))?,
-            (_, Some(_)) => lanes(stem, lane?, old, source(n?), source(m?))?,
+            (_, Some(_)) => lanes(stem, lane?, mark, old, source(n?), source(m?))?,
         };
     }
     Some(())
@@ -179,7 +181,7 @@ fn repeated(w: u32, v: u64) -> u64 {
 }
 
 /// A function of the lanes of three doublewords, lane by lane.
-fn each(w: u32, d: u64, n: u64, m: u64, f: impl Fn(u64, u64, u64) -> u64) -> u64 {
+fn each(w: u32, d: u64, n: u64, m: u64, mut f: impl FnMut(u64, u64, u64) -> u64) -> u64 {
     let mask = u64::MAX >> (64 - w);
     let lane = |x: u64, at: u32| x >> at & mask;
     (0..64)
@@ -221,10 +223,12 @@ fn exact(lane: Lane, x: u64) -> i128 {
     if lane.signed { whole(lane.width, true, x).into() } else { x.into() }
 }
 
-/// A number, moved to the nearer end of the range when outside it.
-fn clamped(lane: Lane, z: i128) -> u64 {
+/// A number, moved to the nearer end of the range when outside it, which turns the mark yes.
+fn clamped(lane: Lane, mark: &mut bool, z: i128) -> u64 {
     let low = if lane.signed { -1 << (lane.width - 1) } else { 0 };
-    z.clamp(low, low + (1 << lane.width) - 1) as u64
+    let kept = z.clamp(low, low + (1 << lane.width) - 1);
+    *mark |= kept != z;
+    kept as u64
 }
 
 fn shifted(stem: &str, lane: Lane, n: u64, k: u32) -> Option<u64> {
@@ -237,7 +241,7 @@ fn shifted(stem: &str, lane: Lane, n: u64, k: u32) -> Option<u64> {
     })
 }
 
-fn lanes(stem: &str, lane: Lane, d: u64, n: u64, m: u64) -> Option<u64> {
+fn lanes(stem: &str, lane: Lane, mark: &mut bool, d: u64, n: u64, m: u64) -> Option<u64> {
     let w = lane.width;
     let whole = |x| whole(w, lane.signed, x);
     let ones = |holds: bool| if holds { u64::MAX } else { 0 };
@@ -253,8 +257,8 @@ fn lanes(stem: &str, lane: Lane, d: u64, n: u64, m: u64) -> Option<u64> {
         "vcge" => each(w, d, n, m, |_, n, m| ones(whole(n) >= whole(m))),
         "vceq" => each(w, d, n, m, |_, n, m| ones(n == m)),
         "vtst" => each(w, d, n, m, |_, n, m| ones(n & m != 0)),
-        "vqadd" => each(w, d, n, m, |_, n, m| clamped(lane, exact(lane, n) + exact(lane, m))),
-        "vqsub" => each(w, d, n, m, |_, n, m| clamped(lane, exact(lane, n) - exact(lane, m))),
+        "vqadd" => each(w, d, n, m, |_, n, m| clamped(lane, mark, exact(lane, n) + exact(lane, m))),
+        "vqsub" => each(w, d, n, m, |_, n, m| clamped(lane, mark, exact(lane, n) - exact(lane, m))),
         "vhadd" => each(w, d, n, m, |_, n, m| ((whole(n) + whole(m)) >> 1) as u64),
         "vrhadd" => each(w, d, n, m, |_, n, m| ((whole(n) + whole(m) + 1) >> 1) as u64),
         "vhsub" => each(w, d, n, m, |_, n, m| ((whole(n) - whole(m)) >> 1) as u64),

@@ -34,6 +34,11 @@ pub fn run(pairs: &[Pair], start: u64, file: &[u64; 32], budget: u64) -> (u32, u
     (if taken < ahead.len() as u64 { 15 } else { 0 }, taken, left)
 }
 
+/// The mark that comes back, 0 or 1, for the byte that was handed in: no pair of a sheet moves a lane to an end.
+pub fn mark(given: u8) -> u8 {
+    u8::from(given != 0)
+}
+
 /// What both in one call answer: the number, the pair count or the index, the pairs executed and the file left.
 pub fn evaluation(sheet: &[u8], room: usize, file: &[u64], budget: u64) -> (u32, u64, u64, Vec<u64>) {
     match (translation(sheet, room), <&[u64; 32]>::try_from(file)) {

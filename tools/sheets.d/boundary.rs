@@ -10,6 +10,7 @@ extern "C" {
         file: *mut u64,
         file_len: usize,
         budget: u64,
+        mark: *mut u8,
         executed: *mut u64,
     ) -> u32;
     fn bodlixo_evaluate(
@@ -20,6 +21,7 @@ extern "C" {
         file: *mut u64,
         file_len: usize,
         budget: u64,
+        mark: *mut u8,
         executed: *mut u64,
         at: *mut u64,
     ) -> u32;
@@ -36,24 +38,24 @@ pub fn translate(sheet: &[u8], out: &mut [u16]) -> (u32, u64) {
     (code, at)
 }
 
-/// The answer's number, and the pairs executed.
-pub fn run(code: &[u16], start: u64, file: &mut [u64], budget: u64) -> (u32, u64) {
+/// The answer's number, the pairs executed, and the mark that comes back.
+pub fn run(code: &[u16], start: u64, file: &mut [u64], budget: u64, mut mark: u8) -> (u32, u64, u8) {
     let mut executed = UNSET;
     let (halfwords, words) = (code.len(), file.len());
     let answer = unsafe {
         let (code, file) = (code.as_ptr(), file.as_mut_ptr());
-        bodlixo_run(code, halfwords, start, file, words, budget, &mut executed)
+        bodlixo_run(code, halfwords, start, file, words, budget, &mut mark, &mut executed)
     };
-    (answer, executed)
+    (answer, executed, mark)
 }
 
-/// The answer's number, the pair count or the index, and the pairs executed.
-pub fn evaluate(sheet: &[u8], out: &mut [u16], file: &mut [u64], budget: u64) -> (u32, u64, u64) {
+/// The answer's number, the pair count or the index, the pairs executed, and the mark that comes back.
+pub fn evaluate(sheet: &[u8], out: &mut [u16], file: &mut [u64], budget: u64, mut mark: u8) -> (u32, u64, u64, u8) {
     let (mut at, mut executed) = (UNSET, UNSET);
     let (bytes, halfwords, words) = (sheet.len(), out.len(), file.len());
     let answer = unsafe {
         let (sheet, out, file) = (sheet.as_ptr(), out.as_mut_ptr(), file.as_mut_ptr());
-        bodlixo_evaluate(sheet, bytes, out, halfwords, file, words, budget, &mut executed, &mut at)
+        bodlixo_evaluate(sheet, bytes, out, halfwords, file, words, budget, &mut mark, &mut executed, &mut at)
     };
-    (answer, at, executed)
+    (answer, at, executed, mark)
 }

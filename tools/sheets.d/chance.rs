@@ -4,6 +4,7 @@ use crate::model::uses;
 use crate::step::{Step, STEP};
 
 /// A stream of numbers that look random (splitmix64).
+#[derive(Default)]
 pub struct Chance(pub u64);
 
 impl Chance {
@@ -24,6 +25,11 @@ impl Chance {
 
     pub fn one<T: Copy>(&mut self, all: &[T]) -> T {
         all[self.below(all.len())]
+    }
+
+    /// A saturation mark: no, or one of the bytes that stand for yes.
+    pub fn mark(&mut self) -> u8 {
+        self.one(&[0, 0, 0, 1, 1, 2, 128, 255])
     }
 
     /// 64 bits: any, or lanes at the ends of their range.

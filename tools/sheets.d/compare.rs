@@ -34,6 +34,8 @@ struct Compared {
     report: Report,
     counts: Counts,
     evaluations: u64,
+    /// The chances of the marks, which change no other case.
+    marks: Chance,
 }
 
 pub fn compare(count: usize) -> ExitCode {
@@ -128,16 +130,24 @@ impl Compared {
         if let Ok(pairs) = answers::translation(sheet, room) {
             due_out[..2 * n].copy_from_slice(&code_of(&pairs));
         }
+        let mark = self.mark();
         let due = answers::evaluation(sheet, room, &file, budget);
-        let (answer, at, executed) = boundary::evaluate(sheet, &mut out[..room], &mut left, budget);
-        let case = || format!("evaluation of {sheet:x?} into {room} with {budget} on {file:x?}");
-        self.report.expect((answer, at, executed, &left), (due.0, due.1, due.2, &due.3), case);
+        let (answer, at, executed, marked) = boundary::evaluate(sheet, &mut out[..room], &mut left, budget, mark);
+        let case = || format!("evaluation of {sheet:x?} into {room} with {budget} on {file:x?}, mark {mark}");
+        let due_mark = answers::mark(mark);
+        self.report.expect((answer, at, executed, &left, marked), (due.0, due.1, due.2, &due.3, due_mark), case);
         self.report.expect(&out, &due_out, || format!("output of the evaluation of {sheet:x?} in {room}"));
         if let (0, Ok(file), Ok(left)) = (due.0, <&[u64; 32]>::try_from(&file[..]), <&[u64; 32]>::try_from(&left[..])) {
             let rows = model::meaning(&steps_of(sheet), model::rows_of(file));
             self.report.expect(model::rows_of(left), rows, || format!("rows of the evaluation of {sheet:x?}"));
         }
         self.counts.add("evaluation answers", due.0.into());
+        self.counts.add("evaluations with a mark of", mark.into());
+    }
+
+    /// The mark that the next call is handed.
+    fn mark(&mut self) -> u8 {
+        self.marks.mark()
     }
 
     /// The steps of a translated sheet, counted.
@@ -175,10 +185,12 @@ impl Compared {
         due: (u32, u64, [u64; 32]),
     ) -> [u64; 32] {
         let mut left = *file;
-        let (answer, executed) = boundary::run(code, start, &mut left, budget);
-        let case = || format!("run of {code:x?} from {start} with {budget} on {file:x?}");
-        self.report.expect((answer, executed, left), due, case);
+        let mark = self.mark();
+        let (answer, executed, marked) = boundary::run(code, start, &mut left, budget, mark);
+        let case = || format!("run of {code:x?} from {start} with {budget} on {file:x?}, mark {mark}");
+        self.report.expect((answer, executed, left, marked), (due.0, due.1, due.2, answers::mark(mark)), case);
         self.counts.add("run answers", due.0.into());
+        self.counts.add("runs with a mark of", mark.into());
         left
     }
 
@@ -238,9 +250,12 @@ impl Compared {
         let words = chance.one(&[0, 1, 31, 33, 64]);
         let file: Vec<u64> = (0..words).map(|_| chance.word()).collect();
         let mut left = file.clone();
-        let ours = boundary::run(code, 0, &mut left, chance.one(&[0, n, u64::MAX]));
-        self.report.expect((ours, left), ((11, 0), file), || format!("a file of {words}"));
+        let mark = self.mark();
+        let ours = boundary::run(code, 0, &mut left, chance.one(&[0, n, u64::MAX]), mark);
+        let due = (11, 0, answers::mark(mark));
+        self.report.expect((ours, left), (due, file), || format!("a file of {words}, mark {mark}"));
         self.counts.add("run answers", 11);
+        self.counts.add("runs with a mark of", mark.into());
         self.counts.add("runs with a file of", words);
     }
 

@@ -13,9 +13,10 @@ struct Program {
     steps: Vec<Step>,
     code: Vec<u16>,
     file: [u64; 32],
+    mark: u8,
 }
 
-/// A sheet of ours, translated; each fiftieth has 256 steps.
+/// A sheet of ours, translated; each fiftieth has 256 steps, and each third the mark yes.
 fn program(chance: &mut Chance, index: usize) -> Program {
     let count = if index % 50 == 0 { 256 } else { chance.count().max(1) };
     let steps = chance.steps(count);
@@ -23,14 +24,15 @@ fn program(chance: &mut Chance, index: usize) -> Program {
     let (answer, pairs) = boundary::translate(&sheet_of(&steps), &mut code);
     assert_eq!(answer, 0, "a sheet that keeps the rules is translated");
     code.truncate(2 * pairs as usize);
-    Program { steps, code, file: chance.file() }
+    Program { steps, code, file: chance.file(), mark: u8::from(index % 3 == 2) }
 }
 
-/// What the emulator leaves of each file.
-fn emulated(harness: &str, programs: &[Program]) -> Vec<[u64; 32]> {
+/// What the emulator leaves of each file, and the mark after it as one word more.
+fn emulated(harness: &str, programs: &[Program]) -> Vec<[u64; 33]> {
     let mut given = Vec::new();
     for program in programs {
         given.extend((program.code.len() as u32 / 2).to_le_bytes());
+        given.extend(u32::from(program.mark).to_le_bytes());
         given.extend(program.file.iter().flat_map(|word| word.to_le_bytes()));
         given.extend(program.code.iter().flat_map(|half| half.to_le_bytes()));
     }
@@ -42,7 +44,7 @@ fn emulated(harness: &str, programs: &[Program]) -> Vec<[u64; 32]> {
     let output = child.wait_with_output().expect("qemu-arm ends");
     writer.join().expect("written");
     let words: Vec<u64> = output.stdout.chunks(8).map(|b| u64::from_le_bytes(b.try_into().expect("8 bytes"))).collect();
-    words.chunks(32).map(|file| file.try_into().expect("32 words")).collect()
+    words.chunks(33).map(|left| left.try_into().expect("33 words")).collect()
 }
 
 pub fn emulate(harness: &str, count: usize) -> ExitCode {
@@ -51,12 +53,14 @@ pub fn emulate(harness: &str, count: usize) -> ExitCode {
     let left = emulated(harness, &programs);
     let mut report = Report::default();
     report.expect(left.len(), count, || "files that the emulator left".to_owned());
-    for (program, left) in programs.iter().zip(&left) {
+    for (program, [left @ .., mark]) in programs.iter().zip(&left) {
         let rows = model::meaning(&program.steps, model::rows_of(&program.file));
         report.expect(model::rows_of(left), rows, || format!("emulated rows of {:x?}", program.steps));
+        report.expect(*mark, program.mark.into(), || format!("emulated mark of {:x?}", program.steps));
         let mut ours = program.file;
-        let ended = boundary::run(&program.code, 0, &mut ours, u64::MAX);
-        report.expect(ended, (0, program.code.len() as u64 / 2), || format!("{:x?}", program.steps));
+        let ended = boundary::run(&program.code, 0, &mut ours, u64::MAX, program.mark);
+        let due = (0, program.code.len() as u64 / 2, program.mark);
+        report.expect(ended, due, || format!("{:x?}", program.steps));
         report.expect(ours, *left, || format!("our file of {:x?}", program.steps));
     }
     let steps: usize = programs.iter().map(|program| program.steps.len()).sum();

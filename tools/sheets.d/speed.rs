@@ -45,7 +45,7 @@ impl Sheet {
             black_box(pairs.map(|pairs| code_of(&pairs)).is_ok());
         });
         let run = timed(times, || {
-            black_box(boundary::run(black_box(&self.code), 0, &mut file, u64::MAX));
+            black_box(boundary::run(black_box(&self.code), 0, &mut file, u64::MAX, 0));
         });
         let interpreted = timed(times, || {
             file = black_box(answers::run(black_box(&self.pairs), 0, &file, u64::MAX)).2;

@@ -1,54 +1,92 @@
 -- What an evaluation at the boundary leaves, by what its translation and its run leave.
 -- Assumes nothing.
-use mathlib.Core.Path.{_≡_, refl, sym, _∙_, ap}
+use mathlib.Core.Path.{_≡_, refl, sym, _∙_, ap, subst}
+use mathlib.Core.Bool.{Bool, true, false}
 use mathlib.Core.List.{List}
 use Prim.Native.Nat.{ℕ, _*_, _^_, _<_}
 use lib.ListN.{length, getD, take}
+use mir.Val.{boolByte}
 use Rattle.effects.specs.File.{File}
 use Rattle.laws.specs.AnswerAt.{AnswerAt, accepted, refused, refusedAt}
+use Rattle.machine.specs.declared.State.{State}
+use Rattle.machine.specs.State.{state}
 use Rattle.runs.specs.Run.{Run, runOf}
 use Rattle.sheet.specs.Demand3.{Demand3}
-use Rattle.sheet.specs.Evaluation.{evaluatedBy, evaluationOf, fileLeft}
+use Rattle.sheet.specs.Evaluation.{evaluatedBy, evaluationOf, stateLeft}
 use Rattle.translator.specs.Translation.{translationOf, writtenOf}
 use Rattle.sheet.proofs.Whole.{sheets-hold}
-use Rattle.capi.specs.Results.{endCode, codeAt, countOrPlace, executedOr0}
+use Rattle.capi.specs.Results.{endCode, codeAt, countOrPlace, executedOr0, markIn, markOut, lent}
 
-module _ (bytes out : List ℕ) (file : File) (budget : ℕ) (small : (k : ℕ) → getD file k 0 < 2 ^ 64) (out′ : List ℕ) (w : out′ ≡ writtenOf bytes out) where
+-- a test as a byte; and a mark that comes out, handed in again
+pub as-byte : (m : Bool) → boolByte m ≡ markOut m
+as-byte true = refl
+as-byte false = refl
+
+again : (m : Bool) → markIn (markOut m) ≡ m
+again true = refl
+again false = refl
+
+module _ (bytes out : List ℕ) (file : File) (byte budget : ℕ) (small : (k : ℕ) → getD file k 0 < 2 ^ 64) (out′ : List ℕ) (w : out′ ≡ writtenOf bytes out) where
+  abbrev s : State
+  s = lent file byte
+
   abbrev answer : AnswerAt Run
-  answer = evaluationOf bytes out file budget
+  answer = evaluationOf bytes out s budget
 
   abbrev codeOf : AnswerAt Run → ℕ
   codeOf = codeAt (λ (r : Run). endCode (r .ending))
 
-  abbrev Leaves : ℕ → ℕ → ℕ → File → Type 0
-  Leaves code executed at file′ =
+  abbrev Leaves : ℕ → ℕ → ℕ → File → ℕ → Type 0
+  Leaves code executed at file′ byte′ =
       (code ≡ codeOf answer)
       × ((executed ≡ executedOr0 answer)
       × ((at ≡ countOrPlace (translationOf bytes (length out)))
-      × ((out′ ≡ writtenOf bytes out) × ((file′ ≡ fileLeft answer file) × Demand3 bytes out file budget out′ file′ answer))))
+      × ((out′ ≡ writtenOf bytes out)
+      × ((file′ ≡ stateLeft answer s .file) × ((byte′ ≡ markOut (markIn byte)) × Demand3 bytes out s budget out′ (lent file′ byte′) answer)))))
 
   -- by the translation's answer t
-  leaves : (t : AnswerAt ℕ) (code executed at : ℕ) (file′ : File) → translationOf bytes (length out) ≡ t
-      → code ≡ codeOf (evaluatedBy t out′ file budget) → executed ≡ executedOr0 (evaluatedBy t out′ file budget)
-      → at ≡ countOrPlace t → file′ ≡ fileLeft (evaluatedBy t out′ file budget) file → Leaves code executed at file′
-  leaves t code executed at file′ e c x a f =
-      let same : evaluatedBy t out′ file budget ≡ answer =
-      ap (λ (o : List ℕ). evaluatedBy t o file budget) w ∙ ap (λ (x : AnswerAt ℕ). evaluatedBy x (writtenOf bytes out) file budget) (sym e) in
-      let left = f ∙ ap (λ (a : AnswerAt Run). fileLeft a file) same in (
+  leaves : (t : AnswerAt ℕ) (code executed at : ℕ) (file′ : File) (byte′ : ℕ) → translationOf bytes (length out) ≡ t
+      → code ≡ codeOf (evaluatedBy t out′ s budget) → executed ≡ executedOr0 (evaluatedBy t out′ s budget)
+      → at ≡ countOrPlace t → file′ ≡ stateLeft (evaluatedBy t out′ s budget) s .file → byte′ ≡ markOut (stateLeft (evaluatedBy t out′ s budget) s .mark)
+      → Leaves code executed at file′ byte′
+  leaves t code executed at file′ byte′ e c x a f m =
+      let same : evaluatedBy t out′ s budget ≡ answer =
+      ap (λ (o : List ℕ). evaluatedBy t o s budget) w ∙ ap (λ (x : AnswerAt ℕ). evaluatedBy x (writtenOf bytes out) s budget) (sym e) in
+      let held = sheets-hold bytes out s budget small in
+      let left : file′ ≡ stateLeft answer s .file = f ∙ ap (λ (a : AnswerAt Run). stateLeft a s .file) same in
+      let mark : byte′ ≡ markOut (stateLeft answer s .mark) = m ∙ ap (λ (a : AnswerAt Run). markOut (stateLeft a s .mark)) same in
+      let whole : lent file′ byte′ ≡ stateLeft answer s = λ i. state (left i) ((ap markIn mark ∙ again (stateLeft answer s .mark)) i) in (
         c ∙ ap codeOf same,
-        (x ∙ ap executedOr0 same, (a ∙ ap countOrPlace (sym e), (w, (left, rw (w, left) (sheets-hold bytes out file budget small))))),
+        (
+          x ∙ ap executedOr0 same,
+          (
+            a ∙ ap countOrPlace (sym e),
+            (
+              w,
+              (
+                left,
+                (
+                  mark ∙ ap markOut (held .mark),
+                  subst (λ (o : List ℕ). Demand3 bytes out s budget o (lent file′ byte′) answer) (sym w)
+                      (subst (λ (z : State). Demand3 bytes out s budget (writtenOf bytes out) z answer) (sym whole) held),
+                ),
+              ),
+            ),
+          ),
+        ),
       )
 
-  pub after-run : (n code executed : ℕ) (file′ : File) → translationOf bytes (length out) ≡ accepted n
-      → code ≡ endCode (runOf (take (2 * n) out′) 0 file budget .ending) → executed ≡ runOf (take (2 * n) out′) 0 file budget .executed
-      → file′ ≡ runOf (take (2 * n) out′) 0 file budget .file → Leaves code executed n file′
+  pub after-run : (n code executed : ℕ) (file′ : File) (byte′ : ℕ) → translationOf bytes (length out) ≡ accepted n
+      → let r = runOf (take (2 * n) out′) 0 s budget in
+      code ≡ endCode (r .ending) → executed ≡ r .executed → file′ ≡ r .state .file → byte′ ≡ markOut (r .state .mark) → Leaves code executed n file′ byte′
   unfolding evaluatedBy
-  after-run n code executed file′ e c x f = leaves (accepted n) code executed n file′ e c x refl f
+  after-run n code executed file′ byte′ e c x f m = leaves (accepted n) code executed n file′ byte′ e c x refl f m
 
-  pub after-refusal : (r code : ℕ) → translationOf bytes (length out) ≡ refused r → code ≡ r → Leaves code 0 0 file
-  unfolding evaluatedBy
-  after-refusal r code e c = leaves (refused r) code 0 0 file e c refl refl refl
+  module _ (byte′ : ℕ) (m : byte′ ≡ markOut (markIn byte)) where
+    pub after-refusal : (r code : ℕ) → translationOf bytes (length out) ≡ refused r → code ≡ r → Leaves code 0 0 file byte′
+    unfolding evaluatedBy
+    after-refusal r code e c = leaves (refused r) code 0 0 file byte′ e c refl refl refl m
 
-  pub after-refusal-at : (r i code : ℕ) → translationOf bytes (length out) ≡ refusedAt r i → code ≡ r → Leaves code 0 i file
-  unfolding evaluatedBy
-  after-refusal-at r i code e c = leaves (refusedAt r i) code 0 i file e c refl refl refl
+    pub after-refusal-at : (r i code : ℕ) → translationOf bytes (length out) ≡ refusedAt r i → code ≡ r → Leaves code 0 i file byte′
+    unfolding evaluatedBy
+    after-refusal-at r i code e c = leaves (refusedAt r i) code 0 i file byte′ e c refl refl refl m

@@ -1,11 +1,17 @@
 -- What a function of the C boundary returns, and what it leaves in what it was lent.
 -- Assumes nothing.
+use mathlib.Core.Bool.{Bool, not}
 use mathlib.Core.List.{List, [], _∷_}
 use Prim.Native.Nat.{ℕ}
+use lib.Dec.{eqb}
 use Rattle.laws.specs.Answer.{Answer, accepted, refused}
 use Rattle.laws.specs.AnswerAt as at
 use Rattle.laws.specs.AnswerAt.{AnswerAt}
+use Rattle.laws.specs.Choice.{choose}
 use Rattle.insn.specs.declared.Insn.{Insn}
+use Rattle.effects.specs.File.{File}
+use Rattle.machine.specs.declared.State.{State}
+use Rattle.machine.specs.State.{state}
 use Rattle.writings.specs.Forms.{Pair, pair}
 use Rattle.runs.specs.Run.{Ending, done, stopped, Run}
 use Rattle.words.specs.Words.{recordWords}
@@ -52,3 +58,14 @@ abbrev pub executedOr0 : AnswerAt Run → ℕ
 executedOr0 (at.accepted r) = r .executed
 executedOr0 (at.refused n) = 0
 executedOr0 (at.refusedAt n i) = 0
+
+-- the mark as a byte: 0 is no, and any other that comes in is yes; 0 or 1 comes out
+abbrev pub markIn : ℕ → Bool
+markIn byte = not (eqb byte 0)
+
+abbrev pub markOut : Bool → ℕ
+markOut mark = choose mark 1 0
+
+-- the state of a file and a mark that were lent
+abbrev pub lent : File → ℕ → State
+lent file byte = state file (markIn byte)

@@ -6,13 +6,13 @@ ghost use Rattle.editions.specs.Editions.{editionOf};
 ghost use Rattle.decode.specs.Editions.{readingIn};
 ghost use Rattle.runs.specs.Run.{Run, runOf};
 ghost use Rattle.sheet.specs.Demand3.{Demand3};
-ghost use Rattle.sheet.specs.Evaluation.{evaluationOf, fileLeft};
+ghost use Rattle.sheet.specs.Evaluation.{evaluationOf, stateLeft};
 ghost use Rattle.translator.specs.Translation.{translationOf, writtenOf};
 ghost use Rattle.encode.specs.Writing.{writingIn};
 ghost use Rattle.listing.specs.Answers.{lengthFor, outAfter};
 ghost use Rattle.lines.specs.Listing.{listing};
 ghost use Rattle.words.specs.Records.{recordOf};
-ghost use Rattle.capi.specs.Results.{returnCode, recordAfter, pairAfter, endCode, codeAt, countOrPlace, executedOr0, acceptedOr0};
+ghost use Rattle.capi.specs.Results.{returnCode, recordAfter, pairAfter, endCode, codeAt, countOrPlace, executedOr0, acceptedOr0, markIn, markOut, lent};
 use editions::edition_of;
 use listing::Listed;
 use machine::Outcome;
@@ -58,20 +58,25 @@ pub extern "C" fn bodlixo_write(edition: u32, words: &[u64; 10], pair: &mut [u16
     }
 }
 
-// Runs the pairs of the code from a start on: 0 when done, or the refusal's number; in any case the pairs executed.
+// Runs the pairs of the code from a start on: 0 when done, or the refusal's number; in any case the pairs executed, and the
+// file and the mark that they left.
 #[no_mangle]
 pub extern "C" fn bodlixo_run(
     code: &[u16],
     start: u64,
     file: &mut [u64],
     budget: u64,
+    mark: &mut u8,
     executed: &mut u64,
 ) -> u32
-    ensures code { λ r. ⌜ r ≡ endCode (runOf (now (code .entry)) start (now (file .entry)) budget .ending) ⌝ }
-    ensures executed { λ r. ⌜ now (executed .exit) ≡ runOf (now (code .entry)) start (now (file .entry)) budget .executed ⌝ }
-    ensures file { λ r. ⌜ now (file .exit) ≡ runOf (now (code .entry)) start (now (file .entry)) budget .file ⌝ }
+    ensures code { λ r. ⌜ r ≡ endCode (runOf (now (code .entry)) start (lent (now (file .entry)) (now (mark .entry))) budget .ending) ⌝ }
+    ensures executed { λ r. ⌜ now (executed .exit) ≡ runOf (now (code .entry)) start (lent (now (file .entry)) (now (mark .entry))) budget .executed ⌝ }
+    ensures file { λ r. ⌜ now (file .exit) ≡ runOf (now (code .entry)) start (lent (now (file .entry)) (now (mark .entry))) budget .state .file ⌝ }
+    ensures mark { λ r. ⌜ now (mark .exit) ≡ markOut (runOf (now (code .entry)) start (lent (now (file .entry)) (now (mark .entry))) budget .state .mark) ⌝ }
 {
-    let ran = runs::run(code, start, file, budget);
+    let mut saturated = *mark != 0;
+    let ran = runs::run(code, start, file, budget, &mut saturated);
+    *mark = saturated as u8;
     *executed = ran.executed;
     let outcome = ran.outcome;
     match outcome {
@@ -105,37 +110,41 @@ pub extern "C" fn bodlixo_translate(sheet: &[u8], out: &mut [u16], at: &mut u64)
 }
 
 // Translates a sheet into the output and runs the pairs on the file: 0 when done; or the translation's refusal, with the
-// file as it was and 0 executed; or the run's. `at` is as in `bodlixo_translate`.
+// file as it was and 0 executed; or the run's. `at` is as in `bodlixo_translate`. The mark stays yes or no.
 #[no_mangle]
 pub extern "C" fn bodlixo_evaluate(
     sheet: &[u8],
     out: &mut [u16],
     file: &mut [u64],
     budget: u64,
+    mark: &mut u8,
     executed: &mut u64,
     at: &mut u64,
 ) -> u32
-    ensures code { λ r. ⌜ r ≡ codeAt (λ (r : Run). endCode (r .ending)) (evaluationOf (now (sheet .entry)) (now (out .entry)) (now (file .entry)) budget) ⌝ }
-    ensures executed { λ r. ⌜ now (executed .exit) ≡ executedOr0 (evaluationOf (now (sheet .entry)) (now (out .entry)) (now (file .entry)) budget) ⌝ }
+    ensures code { λ r. ⌜ r ≡ codeAt (λ (r : Run). endCode (r .ending)) (evaluationOf (now (sheet .entry)) (now (out .entry)) (lent (now (file .entry)) (now (mark .entry))) budget) ⌝ }
+    ensures executed { λ r. ⌜ now (executed .exit) ≡ executedOr0 (evaluationOf (now (sheet .entry)) (now (out .entry)) (lent (now (file .entry)) (now (mark .entry))) budget) ⌝ }
     ensures at { λ r. ⌜ now (at .exit) ≡ countOrPlace (translationOf (now (sheet .entry)) (length (now (out .entry)))) ⌝ }
     ensures out { λ r. ⌜ now (out .exit) ≡ writtenOf (now (sheet .entry)) (now (out .entry)) ⌝ }
-    ensures file { λ r. ⌜ now (file .exit) ≡ fileLeft (evaluationOf (now (sheet .entry)) (now (out .entry)) (now (file .entry)) budget) (now (file .entry)) ⌝ }
-    ensures demand3 { λ r. ⌜ Demand3 (now (sheet .entry)) (now (out .entry)) (now (file .entry)) budget (now (out .exit)) (now (file .exit)) (evaluationOf (now (sheet .entry)) (now (out .entry)) (now (file .entry)) budget) ⌝ }
+    ensures file { λ r. ⌜ now (file .exit) ≡ stateLeft (evaluationOf (now (sheet .entry)) (now (out .entry)) (lent (now (file .entry)) (now (mark .entry))) budget) (lent (now (file .entry)) (now (mark .entry))) .file ⌝ }
+    ensures mark { λ r. ⌜ now (mark .exit) ≡ markOut (markIn (now (mark .entry))) ⌝ }
+    ensures demand3 { λ r. ⌜ Demand3 (now (sheet .entry)) (now (out .entry)) (lent (now (file .entry)) (now (mark .entry))) budget (now (out .exit)) (lent (now (file .exit)) (now (mark .exit))) (evaluationOf (now (sheet .entry)) (now (out .entry)) (lent (now (file .entry)) (now (mark .entry))) budget) ⌝ }
 {
     let translated = translator::translate(sheet, out);
     match translated {
         Translation::Pairs(count) => {
             *at = count;
-            bodlixo_run(&out[..2 * count as usize], 0, file, budget, executed)
+            bodlixo_run(&out[..2 * count as usize], 0, file, budget, mark, executed)
         }
         Translation::Refused(cause) => {
             *at = 0;
             *executed = 0;
+            *mark = (*mark != 0) as u8;
             insn::refusal_number(cause) as u32
         }
         Translation::RefusedAt(cause, step) => {
             *at = step;
             *executed = 0;
+            *mark = (*mark != 0) as u8;
             insn::refusal_number(cause) as u32
         }
     }

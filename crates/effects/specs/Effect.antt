@@ -1,8 +1,10 @@
--- What an act does to the register file.
+-- What an act does to the register file, and whether it moves a lane to an end of its range.
 -- Assumes nothing.
+use mathlib.Core.Bool.{Bool, false}
 use Prim.Native.Nat.{ℕ}
 use Rattle.double_lanes.specs.Double.{doubleOf}
 use Rattle.effects.specs.File.{File, registerBits, readR, writeR}
+use Rattle.marks.specs.Moved.{movedBy}
 use Rattle.meanings.specs.Meaning.{Act, act, double, lengthsIn, numbersIn}
 use Rattle.operations.specs.Operations.{resultOf}
 
@@ -17,3 +19,8 @@ effect x file =
     let l = lengthsIn x in
     let r = numbersIn x in
     writeR (l .d) file (r .d) (resultIn x (readR (l .d) file (r .d)) (readR (l .n) file (r .n)) (readR (l .m) file (r .m)))
+
+-- whether an act moves a lane to an end of its range; on registers of unlike length none does
+abbrev pub moves : Act → File → Bool
+moves (act op r) file = movedBy (registerBits (r .quad)) op (readR (r .quad) file (r .n)) (readR (r .quad) file (r .m))
+moves (double op w r) file = false

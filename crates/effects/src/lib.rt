@@ -1,8 +1,10 @@
-// What an operation does to a file of 32 doublewords.
+// What an operation does to a file of 32 doublewords, and to the mark.
 ghost use mathlib.Core.Path.{_≡_};
 ghost use Prim.Native.Nat.{_<_, _≤_};
+ghost use Rattle.laws.specs.Choice.{either};
 ghost use Rattle.double_lanes.specs.Double.{lengthsOf};
-ghost use Rattle.effects.specs.Effect.{effect};
+ghost use Rattle.effects.specs.Effect.{effect, moves};
+ghost use Rattle.effects.specs.File.{Good};
 ghost use Rattle.effects.specs.Halves.{readHalf, halfAfter};
 ghost use Rattle.insn.specs.Widths.{bitsOf};
 ghost use Rattle.meanings.specs.Meaning.{act, double};
@@ -30,6 +32,26 @@ pub fn perform(file: [u64; 32], op: Operation, r: Registers) -> [u64; 32]
         after[d + 1] = operations::value(op, file[d + 1], file[n + 1], file[m + 1]);
     }
     after
+}
+
+// The mark after an operation on registers of one length, from the file before it: what it was, or yes where a lane is
+// moved to an end of its range.
+pub fn mark_after(mark: bool, file: &[u64; 32], op: Operation, r: Registers) -> bool
+    requires { ⌜ Within (lengths (r .quad) (r .quad) (r .quad)) (r .d) (r .n) (r .m) × Good (now file) ⌝ }
+    ensures { λ after. ⌜ after ≡ either mark (moves (act op r) (now (file .entry))) ⌝ }
+{
+    let n = r.n as usize;
+    let m = r.m as usize;
+    if mark {
+        return true;
+    }
+    if marks::moved(op, file[n], file[m]) {
+        return true;
+    }
+    if r.quad {
+        return marks::moved(op, file[n + 1], file[m + 1]);
+    }
+    false
 }
 
 // The low half of a register for h = 0, the high one for 1: a doubleword of a quadword, 32 bits of a doubleword.

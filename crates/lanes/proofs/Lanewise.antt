@@ -36,6 +36,21 @@ at-zero w x = rw (mul-zero, div-one)
 at-suc : (w i x : ℕ) → laneAt w (suc i) x ≡ laneAt w i (x / 2 ^ w)
 at-suc w i x = rw (mul-suc, add-comm, ← shr-shr)
 
+-- a lane of a number is one of its lowest j lanes, or of what stands above them
+pub lane-below : (w j i a b : ℕ) → i < j → laneAt w i (a + 2 ^ (w * j) * b) ≡ laneAt w i a
+lane-below w zero i a b h = absurd (not-suc-le-zero h)
+lane-below w (suc j) zero a b h = at-zero w (a + 2 ^ (w * suc j) * b) ∙ step-mod w j a b ∙ sym (at-zero w a)
+lane-below w (suc j) (suc i) a b h =
+    at-suc w i (a + 2 ^ (w * suc j) * b) ∙ ap (laneAt w i) (step-div w j a b) ∙ lane-below w j i (a / 2 ^ w) b (le-of-suc-le-suc h)
+    ∙ sym (at-suc w i a)
+
+pub lane-above : (w j i a b : ℕ) → a < 2 ^ (w * j) → laneAt w (j + i) (a + 2 ^ (w * j) * b) ≡ laneAt w i b
+lane-above w zero i a b h =
+    ap (λ (k : ℕ). laneAt w k (a + 2 ^ (w * 0) * b)) (zero-add i) ∙ ap (laneAt w i) (zero-sum w a b h)
+lane-above w (suc j) i a b h =
+    ap (λ (k : ℕ). laneAt w k (a + 2 ^ (w * suc j) * b)) (suc-add j i) ∙ at-suc w (j + i) (a + 2 ^ (w * suc j) * b)
+    ∙ ap (laneAt w (j + i)) (step-div w j a b) ∙ lane-above w j i (a / 2 ^ w) b (step-lt w j a h)
+
 -- what is the same gives the same
 pub same-result : (f : ℕ → ℕ → ℕ → ℕ) {d e n o m p : ℕ} → d ≡ e → n ≡ o → m ≡ p → f d n m ≡ f e o p
 same-result f a b c = rw (a, b, c)

@@ -7,5 +7,6 @@ pub mod Promises
 pub mod Range
 pub mod Search
 pub mod Signed
+pub mod Some
 pub mod Tables
 pub mod Tests

@@ -1,8 +1,8 @@
--- The first number that passes a test.
+-- The first number that passes a test, and whether one does.
 -- Assumes nothing.
-use mathlib.Core.Bool.{Bool}
+use mathlib.Core.Bool.{Bool, false}
 use Prim.Native.Nat.{ℕ, zero, suc}
-use Rattle.laws.specs.Choice.{choose}
+use Rattle.laws.specs.Choice.{choose, either}
 
 pub data Found : Type 0 where
   at : ℕ → Found
@@ -16,3 +16,8 @@ firstFrom p i (suc n) = let rest = firstFrom p (suc i) n in choose (p i) (at i) 
 -- of the numbers below n
 abbrev pub firstBelow : ℕ → (ℕ → Bool) → Found
 firstBelow n p = firstFrom p 0 n
+
+-- whether one of the numbers below n passes
+unfoldable pub someBelow : ℕ → (ℕ → Bool) → Bool
+someBelow zero p = false
+someBelow (suc n) p = let rest = someBelow n p in either (p n) rest

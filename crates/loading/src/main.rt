@@ -42,8 +42,9 @@ fn file_of(start: &[u8; 257]) -> [u64; 32]
 fn load(sheet: &[u8], start: &[u8; 257]) {
     let mut file = file_of(start);
     let mut out = [0u16; 10240];
-    let answer = sheet::evaluate(sheet, &mut out, &mut file, u64::MAX);
-    put_answer(answer, file);
+    let mut mark = false;
+    let answer = sheet::evaluate(sheet, &mut out, &mut file, u64::MAX, &mut mark);
+    put_answer(answer, file, mark);
 }
 
 fn main() {

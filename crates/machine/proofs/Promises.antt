@@ -1,17 +1,18 @@
 -- The promises of specs/Promises.antt.
 -- Assumes nothing.
-use mathlib.Core.Path.{_≡_, refl, ap, subst}
+use mathlib.Core.Path.{_≡_, refl, sym, ap, subst, _∙_}
 use mathlib.Core.Bool.{Bool, true, false}
 use Prim.Native.Nat.{ℕ}
 use lib.Bits.{or-self}
 use Rattle.laws.specs.Answer.{Answer, accepted, refused}
 use Rattle.laws.specs.Choice.{choose}
-use Rattle.laws.proofs.Never.{never}
+use Rattle.laws.proofs.Never.{never, wrong}
 use Rattle.laws.specs.Signed.{modulo}
 use Rattle.insn.specs.declared.Insn.{Insn}
 use Rattle.insn.specs.declared.Sign.{Sign}
 use Rattle.insn.specs.declared.Width.{Width}
 use Rattle.insn.proofs.Promises.{numberedApart}
+use Rattle.decode.specs.Reading.{reading}
 use Rattle.fields.specs.Registers.{Bits, bits, vecBits}
 use Rattle.double_lanes.specs.declared.LongOp.the-variants as long
 use Rattle.double_lanes.specs.declared.DoubleOp.the-variants.{Long}
@@ -23,53 +24,89 @@ use Rattle.tables.specs.declared.lengths.Lengths.{Lengths}
 use Rattle.tables.specs.Lengths.{lengths}
 use Rattle.meanings.specs.declared.Numbers.{Numbers}
 use Rattle.machine.specs.declared.Outcome.the-variants.{Done, Refused as Stopped}
+use Rattle.machine.specs.declared.State.{State}
 use Rattle.effects.specs.File.{File, Good, readD}
 use Rattle.forms.specs.Forms.{groups, namedForms, formOf}
 use Rattle.meanings.specs.Meaning.{Act, act, double, registers, numbers, lengthsIn, numbersIn, Trio, trio, gathered, sameLengths, acting, doubling, wholePattern, meaningIn, meaningOf}
 use Rattle.operations.specs.Operations.{resultOf}
-use Rattle.effects.specs.Effect.{effect}
-use Rattle.machine.specs.Step.{stepBy, stepInsn}
-use Rattle.machine.specs.Promises.{FileKept, OnlyTarget, CopyAlias, LongMoveAlias, OutcomesApart}
-use Rattle.meanings.proofs.Actions.{Fits, meant}
+use Rattle.effects.specs.Effect.{effect, moves}
+use Rattle.marks.proofs.Promises.{movedExactly}
+use Rattle.machine.specs.State.{acted}
+use Rattle.machine.specs.Step.{stepBy, stepInsn, stepRead, stepPair}
+use Rattle.machine.specs.Promises.{FileKept, OnlyTarget, PairMoves, MarkTurns, MarkStays, CopyAlias, LongMoveAlias, OutcomesApart}
+use Rattle.meanings.proofs.Actions.{meant}
 use Rattle.effects.proofs.Effects.{effect-good, effect-other}
 
--- a step that was taken is an act's effect
-taken : (i : Insn) (file after : File) (P : File → Type 0) → ((x : Act) → Fits (i .first) x → P (effect x file)) → stepInsn i file ≡ accepted after → P after
+-- a step that was taken is an act's
+taken : (i : Insn) (s next : State) (P : State → Type 0) → ((x : Act) → meaningOf i ≡ accepted x → P (acted x s)) → stepInsn i s ≡ accepted next → P next
 unfolding stepBy
-taken i file after P each e = go (meaningOf i) refl e
+taken i s next P each e = go (meaningOf i) refl e
   where
-    go : (a : Answer Act) → meaningOf i ≡ a → stepBy a file ≡ accepted after → P after
-    go (accepted x) m f = let k : effect x file ≡ after = cc in subst P k (each x (meant i x m))
+    go : (a : Answer Act) → meaningOf i ≡ a → stepBy a s ≡ accepted next → P next
+    go (accepted x) m f = let k : acted x s ≡ next = cc in subst P k (each x m)
     go (refused n) m f = never (cc)
 
 pub fileKept : FileKept
-fileKept i file after g e = taken i file after Good (λ x k. effect-good x file (k .sound) g) e
+unfolding acted
+fileKept i s next g e = taken i s next (λ (t : State). Good (t .file)) (λ x m. effect-good x (s .file) (meant i x m .sound) g) e
 
 pub onlyTarget : OnlyTarget
-onlyTarget i file after quad d k e v h u =
-    taken i file after (λ (f : File). readD f k ≡ readD file k)
-    (λ x w. let t = w .target in
+unfolding acted
+onlyTarget i s next quad d k e v h u =
+    taken i s next (λ (t : State). readD (t .file) k ≡ readD (s .file) k)
+    (λ x m. let t = meant i x m .target in
     let same : numbersIn x .d ≡ d = cc in
     let alike : lengthsIn x .d ≡ quad = cc in
-    effect-other x file k (rw same h) (rw (same, alike) u)) e
+    effect-other x (s .file) k (rw same h) (rw (same, alike) u)) e
+
+-- a pair's step that was taken is an act's too
+pair-taken : (hw1 hw2 : ℕ) (s next : State) (P : State → Type 0)
+    → ((i : Insn) (x : Act) → reading hw1 hw2 0 ≡ accepted i → meaningOf i ≡ accepted x → P (acted x s)) → stepPair hw1 hw2 s ≡ accepted next → P next
+unfolding stepRead
+pair-taken hw1 hw2 s next P each e = go (reading hw1 hw2 0) refl e
+  where
+    go : (a : Answer Insn) → reading hw1 hw2 0 ≡ a → stepRead a s ≡ accepted next → P next
+    go (accepted i) r f = taken i s next P (λ x m. each i x r m) f
+    go (refused n) r f = never (cc)
+
+pub markStays : MarkStays
+unfolding acted
+markStays hw1 hw2 s next e marked = pair-taken hw1 hw2 s next (λ (t : State). t .mark ≡ true) (λ i x r m. rw marked) e
+
+-- an act that moves a lane is one on registers of one length
+moved-lane : (hw1 hw2 : ℕ) (file : File) (i : Insn) (x : Act) → reading hw1 hw2 0 ≡ accepted i → meaningOf i ≡ accepted x → moves x file ≡ true → PairMoves hw1 hw2 file
+moved-lane hw1 hw2 file i (act op r) read means e = record { insn = i; op = op; registers = r; read = read; meant = means; lane = movedExactly _ op _ _ .0 e }
+moved-lane hw1 hw2 file i (double op w r) read means e = wrong e
+
+lane-moved : (hw1 hw2 : ℕ) (file : File) (i : Insn) (x : Act) → reading hw1 hw2 0 ≡ accepted i → meaningOf i ≡ accepted x → PairMoves hw1 hw2 file → moves x file ≡ true
+lane-moved hw1 hw2 file i x read means p =
+    let same : i ≡ p .insn = cc (sym read ∙ p .read) in
+    let act-is : x ≡ act (p .op) (p .registers) = cc (sym means ∙ ap meaningOf same ∙ p .meant) in
+    ap (λ (y : Act). moves y file) act-is ∙ movedExactly _ (p .op) _ _ .1 (p .lane)
+
+pub markTurns : MarkTurns
+unfolding acted
+markTurns hw1 hw2 s next e unmarked =
+    pair-taken hw1 hw2 s next (λ (t : State). (t .mark ≡ true → PairMoves hw1 hw2 (s .file)) × (PairMoves hw1 hw2 (s .file) → t .mark ≡ true))
+    (λ i x r m. rw unmarked (moved-lane hw1 hw2 (s .file) i x r m, lane-moved hw1 hw2 (s .file) i x r m)) e
 
 -- what vorr does with equal sources, a copy does
-copied : (file : File) (quad : Bool) (d n m : ℕ) → n ≡ m
-    → effect (act (Bitwise Orr) (registers quad d n m)) file ≡ effect (act (Bitwise Mov) (registers quad d n m)) file
-unfolding effect resultOf
-copied file quad d n m e = subst (λ (m : ℕ). effect (act (Bitwise Orr) (registers quad d n m)) file ≡ effect (act (Bitwise Mov) (registers quad d n m)) file) e (simp or-self)
+copied : (s : State) (quad : Bool) (d n m : ℕ) → n ≡ m
+    → acted (act (Bitwise Orr) (registers quad d n m)) s ≡ acted (act (Bitwise Mov) (registers quad d n m)) s
+unfolding acted effect resultOf
+copied s quad d n m e = subst (λ (m : ℕ). acted (act (Bitwise Orr) (registers quad d n m)) s ≡ acted (act (Bitwise Mov) (registers quad d n m)) s) e (simp or-self)
 
-alike : (file : File) (g : Answer Trio) → ((l : Lengths) (r : Numbers) → g ≡ accepted (trio l r) → r .n ≡ r .m)
-    → stepBy (acting (Bitwise Orr) g) file ≡ stepBy (acting (Bitwise Mov) g) file
+alike : (s : State) (g : Answer Trio) → ((l : Lengths) (r : Numbers) → g ≡ accepted (trio l r) → r .n ≡ r .m)
+    → stepBy (acting (Bitwise Orr) g) s ≡ stepBy (acting (Bitwise Mov) g) s
 unfolding acting stepBy
-alike file (accepted (trio l r)) equal = go (sameLengths l (lengths (l .d) (l .d) (l .d)))
+alike s (accepted (trio l r)) equal = go (sameLengths l (lengths (l .d) (l .d) (l .d)))
   where
     go : (b : Bool)
-        → stepBy (choose b (accepted (act (Bitwise Orr) (registers (l .d) (r .d) (r .n) (r .m)))) (refused 10)) file
-        ≡ stepBy (choose b (accepted (act (Bitwise Mov) (registers (l .d) (r .d) (r .n) (r .m)))) (refused 10)) file
-    go true = ap accepted (copied file (l .d) (r .d) (r .n) (r .m) (equal l r refl))
+        → stepBy (choose b (accepted (act (Bitwise Orr) (registers (l .d) (r .d) (r .n) (r .m)))) (refused 10)) s
+        ≡ stepBy (choose b (accepted (act (Bitwise Mov) (registers (l .d) (r .d) (r .n) (r .m)))) (refused 10)) s
+    go true = ap accepted (copied s (l .d) (r .d) (r .n) (r .m) (equal l r refl))
     go false = refl
-alike file (refused k) equal = refl
+alike s (refused k) equal = refl
 
 -- sources that are the same operand have the same number
 equal-sources : (x y : Answer Bits) (l : Lengths) (r : Numbers) → gathered x y y ≡ accepted (trio l r) → r .n ≡ r .m
@@ -88,28 +125,28 @@ vmov-form = refl
 
 pub copyAlias : CopyAlias
 unfolding meaningOf meaningIn
-copyAlias i j file a b c d e f g = rw (a, vorr-form, b, c, d, vmov-form, e, f, g) (alike file (gathered (vecBits (i .first)) (vecBits (i .second)) (vecBits (i .second))) (equal-sources (vecBits (i .first)) (vecBits (i .second))))
+copyAlias i j s a b c d e f g = rw (a, vorr-form, b, c, d, vmov-form, e, f, g) (alike s (gathered (vecBits (i .first)) (vecBits (i .second)) (vecBits (i .second))) (equal-sources (vecBits (i .first)) (vecBits (i .second))))
 
 -- a shift by 0 does what a move does
-long-moved : (file : File) (s : Sign) (w : Width) (g : Answer Trio)
-    → stepBy (doubling (Long (long.Shl 0) s) w g) file ≡ stepBy (doubling (Long long.Mov s) w g) file
-unfolding doubling stepBy effect
-long-moved file s w (accepted (trio l r)) = go (sameLengths l (lengths true false false))
+long-moved : (s : State) (sign : Sign) (w : Width) (g : Answer Trio)
+    → stepBy (doubling (Long (long.Shl 0) sign) w g) s ≡ stepBy (doubling (Long long.Mov sign) w g) s
+unfolding doubling stepBy acted effect
+long-moved s sign w (accepted (trio l r)) = go (sameLengths l (lengths true false false))
   where
     go : (b : Bool)
-        → stepBy (choose b (accepted (double (Long (long.Shl 0) s) w r)) (refused 10)) file
-        ≡ stepBy (choose b (accepted (double (Long long.Mov s) w r)) (refused 10)) file
+        → stepBy (choose b (accepted (double (Long (long.Shl 0) sign) w r)) (refused 10)) s
+        ≡ stepBy (choose b (accepted (double (Long long.Mov sign) w r)) (refused 10)) s
     go true = rw shift-none
     go false = refl
-long-moved file s w (refused k) = refl
+long-moved s sign w (refused k) = refl
 
 pub longMoveAlias : LongMoveAlias
 unfolding modulo wholePattern meaningOf meaningIn
-longMoveAlias i j file s w a b c d e f g =
-    rw (a, b, c, d, e, f, g) (long-moved file s w (gathered (vecBits (i .first)) (vecBits (i .second)) (vecBits (i .second))))
+longMoveAlias i j s sign w a b c d e f g =
+    rw (a, b, c, d, e, f, g) (long-moved s sign w (gathered (vecBits (i .first)) (vecBits (i .second)) (vecBits (i .second))))
 
 pub outcomesApart : OutcomesApart
-outcomesApart Done Done f g e = refl
-outcomesApart Done (Stopped y) f g e = never (cc)
-outcomesApart (Stopped x) Done f g e = never (cc)
-outcomesApart (Stopped x) (Stopped y) f g e = ap Stopped (numberedApart x y (cc))
+outcomesApart Done Done s t e = refl
+outcomesApart Done (Stopped y) s t e = never (cc)
+outcomesApart (Stopped x) Done s t e = never (cc)
+outcomesApart (Stopped x) (Stopped y) s t e = ap Stopped (numberedApart x y (cc))

@@ -4,12 +4,12 @@ use Rattle.laws.specs.Answer.{Answer, accepted, refused}
 use Rattle.insn.specs.Refusals.{number}
 use Rattle.machine.specs.declared.Outcome.{Outcome}
 use Rattle.machine.specs.declared.Outcome.the-variants.{Done, Refused as Stopped}
+use Rattle.machine.specs.declared.State.{State}
 use Rattle.machine.specs.declared.Stepped.{Stepped}
-use Rattle.effects.specs.File.{File}
 
-abbrev pub outcomeAnswer : Outcome → File → Answer File
-outcomeAnswer Done file = accepted file
-outcomeAnswer (Stopped f) file = refused (number f)
+abbrev pub outcomeAnswer : Outcome → State → Answer State
+outcomeAnswer Done s = accepted s
+outcomeAnswer (Stopped f) s = refused (number f)
 
-abbrev pub steppedAnswer : Stepped → Answer File
-steppedAnswer s = outcomeAnswer (s .outcome) (s .file)
+abbrev pub steppedAnswer : Stepped → Answer State
+steppedAnswer r = outcomeAnswer (r .outcome) (r .state)

@@ -1,30 +1,30 @@
--- One machine step: the file after a record and after a pair.
+-- One machine step: the state after a record and after a pair.
 -- Assumes nothing.
 use Prim.Native.Nat.{ℕ}
 use Rattle.laws.specs.Answer.{Answer, accepted, refused}
 use Rattle.insn.specs.declared.Insn.{Insn}
 use Rattle.decode.specs.Reading.{reading}
-use Rattle.effects.specs.File.{File}
-use Rattle.effects.specs.Effect.{effect}
 use Rattle.meanings.specs.Meaning.{Act, meaningOf}
+use Rattle.machine.specs.declared.State.{State}
+use Rattle.machine.specs.State.{acted}
 
-unfoldable pub stepBy : Answer Act → File → Answer File
-stepBy (accepted x) file = accepted (effect x file)
-stepBy (refused n) file = refused n
+unfoldable pub stepBy : Answer Act → State → Answer State
+stepBy (accepted x) s = accepted (acted x s)
+stepBy (refused n) s = refused n
 
 -- the step that a record is
-abbrev pub stepInsn : Insn → File → Answer File
-stepInsn i file = stepBy (meaningOf i) file
+abbrev pub stepInsn : Insn → State → Answer State
+stepInsn i s = stepBy (meaningOf i) s
 
-unfoldable pub stepRead : Answer Insn → File → Answer File
-stepRead (accepted i) file = stepInsn i file
-stepRead (refused n) file = refused n
+unfoldable pub stepRead : Answer Insn → State → Answer State
+stepRead (accepted i) s = stepInsn i s
+stepRead (refused n) s = refused n
 
 -- the step that a pair is: edition C's refusal in reading, else the record's step; the address does not matter
-abbrev pub stepPair : ℕ → ℕ → File → Answer File
-stepPair hw1 hw2 file = stepRead (reading hw1 hw2 0) file
+abbrev pub stepPair : ℕ → ℕ → State → Answer State
+stepPair hw1 hw2 s = stepRead (reading hw1 hw2 0) s
 
--- a refusal leaves the file as it was
-abbrev pub fileAfter : Answer File → File → File
-fileAfter (accepted after) file = after
-fileAfter (refused n) file = file
+-- a refusal leaves the state as it was
+abbrev pub stateAfter : Answer State → State → State
+stateAfter (accepted next) s = next
+stateAfter (refused n) s = s

@@ -1,8 +1,8 @@
-// Runs worked vectors through the machine and prints how many passed. A line of the input is a mark, a vector, and then
-// how the result was worked; after the mark # it is text. After a space the vector has a mnemonic, a shape, a number, the
+// Runs worked vectors through the machine and prints how many passed. A line of the input is a sign, a vector, and then
+// how the result was worked; after the sign # it is text. After a space the vector has a mnemonic, a shape, a number, the
 // old target, the first source, the second source and the result, and is run on doublewords and on both halves of
-// quadwords. After : and ! it has a mnemonic, the operands, a number, and the quadwords Q0, Q1, Q2 and then Q0 afterwards;
-// those after ! are refused.
+// quadwords. After : + and ! it has a mnemonic, the operands, a number, and the quadwords Q0, Q1, Q2 and then Q0 afterwards;
+// after + the mark turns, and those after ! are refused.
 use libc::STDIN_FILENO;
 use replay::put;
 use replay::put_count;
@@ -46,31 +46,31 @@ fn alike() -> u64 {
 }
 
 // Reads a vector with registers of different lengths and runs it.
-fn unlike(mark: u8) -> u64 {
+fn unlike(sign: u8) -> u64 {
     let mut line = [0u8; 153];
     if io::read_full(STDIN_FILENO, &mut line) < 153 {
         return 0;
     }
-    let passed = passes_unlike(&line, mark);
+    let passed = passes_unlike(&line, sign);
     tell(&line, passed)
 }
 
-// Runs the vector after a mark.
-fn vector(mark: u8) -> u64 {
-    if mark == b' ' { alike() } else { unlike(mark) }
+// Runs the vector after a sign.
+fn vector(sign: u8) -> u64 {
+    if sign == b' ' { alike() } else { unlike(sign) }
 }
 
 fn main() {
-    let mut mark = [0u8; 1];
+    let mut sign = [0u8; 1];
     let mut read: u64 = 0;
     let mut passed: u64 = 0;
     for _ in 0..1000u16 {
-        if io::read_full(STDIN_FILENO, &mut mark) < 1 {
+        if io::read_full(STDIN_FILENO, &mut sign) < 1 {
             break;
         }
-        if mark[0] != b'#' {
+        if sign[0] != b'#' {
             read = std::num::wrapping_add_u64(read, 1);
-            passed = std::num::wrapping_add_u64(passed, vector(mark[0]));
+            passed = std::num::wrapping_add_u64(passed, vector(sign[0]));
         }
         skip();
     }

@@ -1,4 +1,4 @@
-// What `loading` writes: the pair count and rows 0 to 13, or the refusal.
+// What `loading` writes: the pair count and rows 0 to 13, or the refusal; and the mark where it is yes.
 use insn::Refusal;
 use libc::STDOUT_FILENO;
 use machine::Outcome;
@@ -60,8 +60,20 @@ fn put_run(ran: Ran, file: [u64; 32]) {
     }
 }
 
-// The answer of an evaluation, and the file that it leaves.
-pub fn put_answer(answer: Evaluation, file: [u64; 32]) {
+// The mark, where a lane was moved to an end of its range.
+fn put_mark(mark: bool) {
+    if mark {
+        put(b"saturated\n");
+    }
+}
+
+// The answer of an evaluation, and the file and the mark that it leaves.
+pub fn put_answer(answer: Evaluation, file: [u64; 32], mark: bool) {
+    put_evaluation(answer, file);
+    put_mark(mark);
+}
+
+fn put_evaluation(answer: Evaluation, file: [u64; 32]) {
     match answer {
         Evaluation::Ran(ran) => put_run(ran, file),
         Evaluation::Refused(f) => {

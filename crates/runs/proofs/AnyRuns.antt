@@ -1,15 +1,17 @@
 -- Runs over any state and any step: what a turn of the loop does to them, and what they have to do with steps.
 -- Assumes nothing.
 use mathlib.Core.Path.{_≡_, refl, sym, _∙_, ap}
+use mathlib.Core.Bool.{true}
 use mathlib.Core.List.{List, [], _∷_}
 use Prim.Native.Nat.{ℕ, zero, suc, _+_, _-_, _*_, _/_, _%_, _≤_, _<_}
 use native.Mathlib.Nat.{not-suc-le-zero, zero-add, suc-add}
 use native.Mathlib.Omega.{arith}
 use lib.ListN.{length, getD, drop, drop-of-length-le}
 use lib.Seq.{drop-cons}
+use borrow.Author.Tests.{eqb-true}
 use Rattle.laws.specs.Answer.{Answer, accepted, refused, andThen}
 use Rattle.laws.proofs.Never.{never}
-use Rattle.runs.specs.Run.{done, stopped, RunOn, atOnce, after, onward, runBy, stepsBy}
+use Rattle.runs.specs.Run.{done, stopped, goesOn, RunOn, atOnce, after, onward, runBy, stepsBy}
 
 -- the pair at place i of the code, and the end of the code
 module _ (code : List ℕ) (i : ℕ) where
@@ -77,7 +79,7 @@ module _ {S : Type 0} (step : ℕ → ℕ → S → Answer S) where
 
   -- the pairs executed are the steps between the two states
   abbrev pub Counted : List ℕ → S → RunOn S → Type 0
-  Counted code state r = stepsBy step (r .executed) code state ≡ accepted (r .file)
+  Counted code state r = stepsBy step (r .executed) code state ≡ accepted (r .state)
 
   -- one step before others
   more-steps : (hw1 hw2 : ℕ) (code : List ℕ) (state next : S) (n : ℕ) → step hw1 hw2 state ≡ accepted next
@@ -99,7 +101,7 @@ module _ {S : Type 0} (step : ℕ → ℕ → S → Answer S) where
 
   -- a run of n pairs, all of which have a step, with budget enough
   pub all-run : (code : List ℕ) (n budget : ℕ) (state next : S) → length code ≡ 2 * n → stepsBy step n code state ≡ accepted next → n ≤ budget
-      → runBy step code budget state ≡ (record { ending = done; executed = n; file = next })
+      → runBy step code budget state ≡ (record { ending = done; executed = n; state = next })
   unfolding runBy stepsBy
   all-run [] zero budget state next l e h = let k : state ≡ next = cc in ap (atOnce done) k
   all-run [] (suc n) budget state next l e h = absurd (let z : ⊥ = omega arith in z)
@@ -110,14 +112,14 @@ module _ {S : Type 0} (step : ℕ → ℕ → S → Answer S) where
       turn (step hw1 hw2 state) e (λ mid. all-run code n budget mid next (omega arith))
     where
       turn : (x : Answer S) → andThen x (λ mid. stepsBy step n code mid) ≡ accepted next
-          → ((mid : S) → stepsBy step n code mid ≡ accepted next → n ≤ budget → runBy step code budget mid ≡ (record { ending = done; executed = n; file = next }))
-          → onward x state (λ mid. runBy step code budget mid) ≡ (record { ending = done; executed = suc n; file = next })
+          → ((mid : S) → stepsBy step n code mid ≡ accepted next → n ≤ budget → runBy step code budget mid ≡ (record { ending = done; executed = n; state = next }))
+          → onward x state (λ mid. runBy step code budget mid) ≡ (record { ending = done; executed = suc n; state = next })
       turn (accepted mid) f k = ap (after 1) (k mid f (omega arith)) ∙ rw (one-add n)
       turn (refused j) f k = never (cc)
 
   -- it executes no more pairs than there are, and what each step keeps it keeps
   abbrev Bounded : (S → Type 0) → List ℕ → RunOn S → Type 0
-  Bounded P code r = P (r .file) × (2 * r .executed ≤ length code)
+  Bounded P code r = P (r .state) × (2 * r .executed ≤ length code)
 
   pub bounded : (P : S → Type 0) → ((hw1 hw2 : ℕ) (s next : S) → step hw1 hw2 s ≡ accepted next → P s → P next)
       → (code : List ℕ) (budget : ℕ) (s : S) → P s → Bounded P code (runBy step code budget s)
@@ -132,14 +134,14 @@ module _ {S : Type 0} (step : ℕ → ℕ → S → Answer S) where
       turn (accepted next) e h = let k = h next (keeps hw1 hw2 s next e p) in (k .0, let n = k .1 in omega arith)
       turn (refused n) e h = (p, omega arith)
 
-  -- a run that a spent budget stopped goes on with more
+  -- a run that was done, or that a spent budget stopped, goes on with more
   abbrev Goes : List ℕ → ℕ → RunOn S → RunOn S → Type 0
-  Goes code c r whole = r .ending ≡ stopped 15 → whole ≡ after (r .executed) (runBy step (drop (2 * r .executed) code) c (r .file))
+  Goes code c r whole = goesOn (r .ending) ≡ true → whole ≡ after (r .executed) (runBy step (drop (2 * r .executed) code) c (r .state))
 
   pub goes-on : (code : List ℕ) (b c : ℕ) (state : S) → Goes code c (runBy step code b state) (runBy step code (b + c) state)
   unfolding runBy
-  goes-on [] b c state e = never (cc)
-  goes-on (hw1 ∷ []) b c state e = never (cc)
+  goes-on [] b c state e = refl
+  goes-on (hw1 ∷ []) b c state e = refl
   goes-on (hw1 ∷ hw2 ∷ code) zero c state e =
       ap (λ (k : ℕ). runBy step (hw1 ∷ hw2 ∷ code) k state) (zero-add c) ∙ sym (after-none (runBy step (hw1 ∷ hw2 ∷ code) c state))
   goes-on (hw1 ∷ hw2 ∷ code) (suc b) c state e =
@@ -154,6 +156,6 @@ module _ {S : Type 0} (step : ℕ → ℕ → S → Answer S) where
       turn (accepted next) e h s =
           let r = runBy step code b next in
           let d : 2 * (1 + r .executed) ≡ suc (suc (2 * r .executed)) = omega arith in
-          ap (after 1) (h next s) ∙ after-after 1 (r .executed) (runBy step (drop (2 * r .executed) code) c (r .file))
-          ∙ ap (λ (k : ℕ). after (1 + r .executed) (runBy step (drop k (hw1 ∷ hw2 ∷ code)) c (r .file))) (sym d)
-      turn (refused n) e h s = let k : n ≡ 15 = cc in same n c e k ∙ sym (after-none (runBy step (hw1 ∷ hw2 ∷ code) c state))
+          ap (after 1) (h next s) ∙ after-after 1 (r .executed) (runBy step (drop (2 * r .executed) code) c (r .state))
+          ∙ ap (λ (k : ℕ). after (1 + r .executed) (runBy step (drop k (hw1 ∷ hw2 ∷ code)) c (r .state))) (sym d)
+      turn (refused n) e h s = same n c e (eqb-true n 15 s) ∙ sym (after-none (runBy step (hw1 ∷ hw2 ∷ code) c state))

@@ -1,4 +1,5 @@
 pub mod AnyRuns
 pub mod Copies
+pub mod Marks
 pub mod Promises
 pub mod Runs

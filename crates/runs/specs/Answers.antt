@@ -3,7 +3,7 @@
 use Rattle.insn.specs.Refusals.{number}
 use Rattle.machine.specs.declared.Outcome.{Outcome}
 use Rattle.machine.specs.declared.Outcome.the-variants.{Done, Refused as Stopped}
-use Rattle.effects.specs.File.{File}
+use Rattle.machine.specs.declared.State.{State}
 use Rattle.runs.specs.declared.Ran.{Ran}
 use Rattle.runs.specs.Run.{Ending, done, stopped, Run}
 
@@ -12,6 +12,6 @@ abbrev pub endingOf : Outcome → Ending
 endingOf Done = done
 endingOf (Stopped f) = stopped (number f)
 
--- a run's answer, with the file that it leaves
-abbrev pub ranOf : Ran → File → Run
-ranOf r file = record { ending = endingOf (r .outcome); executed = r .executed; file = file }
+-- a run's answer, with the state that it leaves
+abbrev pub ranOf : Ran → State → Run
+ranOf r s = record { ending = endingOf (r .outcome); executed = r .executed; state = s }

@@ -1,12 +1,14 @@
-// A run of pairs on a lent register file, with a budget of steps.
+// A run of pairs on a lent register file and mark, with a budget of steps.
 ghost use mathlib.Core.Path.{_≡_};
 ghost use Prim.Native.Nat.{_*_, _/_, _%_, _≤_};
 ghost use lib.ListN.{length, drop};
 ghost use Rattle.laws.specs.Answer.{accepted};
+ghost use Rattle.machine.specs.State.{state};
 ghost use Rattle.runs.specs.Answers.{endingOf, ranOf};
 ghost use Rattle.runs.specs.Run.{atOnce, after, runPairs, runOf, machineSteps};
 use insn::Refusal;
 use machine::Outcome;
+use machine::State;
 use machine::step;
 
 // What a run answers: how it ended, and the pairs executed.
@@ -15,19 +17,19 @@ pub struct Ran {
     pub executed: u64,
 }
 
-// Where the pairs' loop halted: its answer, and the file that it leaves.
+// Where the pairs' loop halted: its answer, and the state that it leaves.
 struct Halt {
     ran: Ran,
-    file: [u64; 32],
+    state: State,
 }
 
 // The halt with an outcome, after so many pairs.
-fn halted(outcome: Outcome, executed: u64, file: [u64; 32]) -> Halt
-    ensures { λ r. ⌜ ranOf (r .ran) (r .file) ≡ after executed (atOnce (endingOf outcome) file) ⌝ }
+fn halted(outcome: Outcome, executed: u64, s: State) -> Halt
+    ensures { λ r. ⌜ ranOf (r .ran) (r .state) ≡ after executed (atOnce (endingOf outcome) s) ⌝ }
 {
     Halt {
         ran: Ran { outcome, executed },
-        file,
+        state: s,
     }
 }
 
@@ -58,36 +60,36 @@ fn store(lent: &mut [u64], file: [u64; 32])
 }
 
 // The pairs from a start on, in turn, while the budget lasts.
-fn go(code: &[u16], start: usize, file: [u64; 32], budget: u64) -> Halt
+fn go(code: &[u16], start: usize, before: State, budget: u64) -> Halt
     requires { ⌜ (length (now code) % 2 ≡ 0) × (start ≤ length (now code) / 2) ⌝ }
-    ensures { λ r. ⌜ ranOf (r .ran) (r .file) ≡ runPairs (drop (2 * start) (now (code .entry))) budget file ⌝ }
+    ensures { λ r. ⌜ ranOf (r .ran) (r .state) ≡ runPairs (drop (2 * start) (now (code .entry))) budget before ⌝ }
 {
     let pairs = code.len() / 2;
     let mut at = start;
     let mut left = budget;
-    let mut f = file;
+    let mut s = before;
     while at < pairs {
         if left == 0 {
-            return halted(Outcome::Refused(Refusal::BudgetSpent), budget - left, f);
+            return halted(Outcome::Refused(Refusal::BudgetSpent), budget - left, s);
         }
-        let stepped = step(f, code[2 * at], code[2 * at + 1]);
+        let stepped = step(s, code[2 * at], code[2 * at + 1]);
         let outcome = stepped.outcome;
         match outcome {
             Outcome::Done => {
-                f = stepped.file;
+                s = stepped.state;
             }
-            Outcome::Refused(r) => return halted(Outcome::Refused(r), budget - left, f),
+            Outcome::Refused(r) => return halted(Outcome::Refused(r), budget - left, s),
         }
         at += 1;
         left -= 1;
     }
-    halted(Outcome::Done, budget - left, f)
+    halted(Outcome::Done, budget - left, s)
 }
 
-// The run from a start counted in pairs, while the budget of steps lasts. It leaves the file at the last executed pair.
-pub fn run(code: &[u16], start: u64, file: &mut [u64], budget: u64) -> Ran
-    ensures answer { λ r. ⌜ ranOf r (now (file .exit)) ≡ runOf (now (code .entry)) start (now (file .entry)) budget ⌝ }
-    ensures counted { λ r. ⌜ machineSteps (r .executed) (drop (2 * start) (now (code .entry))) (now (file .entry)) ≡ accepted (now (file .exit)) ⌝ }
+// The run from a start counted in pairs, while the budget of steps lasts. It leaves file and mark at the last executed pair.
+pub fn run(code: &[u16], start: u64, file: &mut [u64], budget: u64, mark: &mut bool) -> Ran
+    ensures answer { λ r. ⌜ ranOf r (state (now (file .exit)) (now (mark .exit))) ≡ runOf (now (code .entry)) start (state (now (file .entry)) (now (mark .entry))) budget ⌝ }
+    ensures counted { λ r. ⌜ machineSteps (r .executed) (drop (2 * start) (now (code .entry))) (state (now (file .entry)) (now (mark .entry))) ≡ accepted (state (now (file .exit)) (now (mark .exit))) ⌝ }
 {
     if code.len() % 2 != 0 {
         return Ran {
@@ -107,9 +109,15 @@ pub fn run(code: &[u16], start: u64, file: &mut [u64], budget: u64) -> Ran
             executed: 0,
         };
     }
-    let before = load(file);
+    let numbers = load(file);
+    let before = State {
+        file: numbers,
+        mark: *mark,
+    };
     let end = go(code, start as usize, before, budget);
-    let after = end.file;
-    store(file, after);
+    let after = end.state;
+    let left = after.file;
+    store(file, left);
+    *mark = after.mark;
     end.ran
 }

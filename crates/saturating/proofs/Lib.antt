@@ -1,5 +1,5 @@
 pub mod Ends
-pub mod Moved
 pub mod Near
 pub mod Promises
+pub mod Sides
 pub mod Tests

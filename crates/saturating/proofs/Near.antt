@@ -20,7 +20,7 @@ use Rattle.arithmetic.proofs.Order.{is-minus, less-than, at-least}
 use Rattle.saturating.specs.Range.{lowest, highest, clamp}
 use Rattle.saturating.specs.Promises.{within}
 use Rattle.saturating.proofs.Ends.{top, bottom, top-is, bottom-is}
-use Rattle.saturating.proofs.Moved.{from-below, from-above, not-moved}
+use Rattle.saturating.proofs.Sides.{from-below, from-above, not-moved}
 
 -- in the range is neither below nor above it
 module _ (s : Sign) (w : ℕ) (z : ℤ) where

@@ -1,18 +1,23 @@
 -- The proofs of what specs/Promises.antt states.
 -- Assumes nothing.
-use mathlib.Core.Path.{_≡_, refl, sym}
+use mathlib.Core.Path.{_≡_, refl, sym, ap, _∙_}
 use mathlib.Core.Bool.{Bool, true, false}
+use mathlib.Core.Logic.{_≢_}
 use Prim.Native.Nat.{ℕ}
 use native.Mathlib.Omega.{arith}
+use lib.IntN.{ℤ, pos, negsuc}
 use lib.Signed.{ltZ}
+use borrow.Author.Tests.{le-ltb}
+use Rattle.laws.specs.Choice.{either}
+use Rattle.laws.proofs.Never.{wrong}
 use Rattle.insn.specs.declared.Sign.{Sign}
 use Rattle.arithmetic.specs.Whole.{readAs}
 use Rattle.arithmetic.proofs.Order.{not-less}
 use Rattle.saturating.specs.Range.{lowest, highest, clamp}
-use Rattle.saturating.specs.Promises.{within, LaneWithin, WithinRead, MovedWithin, NotMoved, Nearest}
+use Rattle.saturating.specs.Promises.{within, LaneWithin, WithinRead, MovedWithin, NotMoved, Nearest, OutsideMoved}
 use Rattle.saturating.proofs.Ends.{top, bottom, top-is, bottom-is}
 use Rattle.saturating.proofs.Tests.{read-within}
-use Rattle.saturating.proofs.Moved.{from-below, from-above, not-moved}
+use Rattle.saturating.proofs.Sides.{from-below, from-above, not-moved}
 use Rattle.saturating.proofs.Near.{inside, not-outside, read-again, nearest as none-nearer}
 
 pub laneWithin : LaneWithin
@@ -46,3 +51,21 @@ notMoved s w z e = let k = not-outside s w z e in not-moved s w z (k .0) (k .1)
 
 pub nearest : Nearest
 nearest s w y z e = none-nearer s w y z e
+
+less-self : (z : ℤ) → ltZ z z ≡ false
+less-self (pos a) = le-ltb a a (omega arith)
+less-self (negsuc a) = le-ltb a a (omega arith)
+
+pub outsideMoved : OutsideMoved
+outsideMoved s w z = by (ltZ z (lowest s w)) (ltZ (highest s w) z) refl refl
+  where
+    by : (t u : Bool) → ltZ z (lowest s w) ≡ t → ltZ (highest s w) z ≡ u → (either t u ≡ true → clamp s w z ≢ z) × (either t u ≡ false → clamp s w z ≡ z)
+    by true u p q = (
+      (λ e m. let k : lowest s w ≡ z = sym (from-below s w z p) ∙ m in wrong (sym (less-self z) ∙ ap (λ (y : ℤ). ltZ z y) (sym k) ∙ p)),
+      λ e. wrong (sym e),
+    )
+    by false true p q = (
+      (λ e m. let k : highest s w ≡ z = sym (from-above s w z p q) ∙ m in wrong (sym (less-self z) ∙ ap (λ (y : ℤ). ltZ y z) (sym k) ∙ q)),
+      λ e. wrong (sym e),
+    )
+    by false false p q = ((λ e. wrong e), λ e. not-moved s w z p q)

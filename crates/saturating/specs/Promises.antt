@@ -1,6 +1,7 @@
 -- What is promised of the range beyond the contracts; each is proved under its name in proofs/Promises.antt.
 -- Assumes nothing.
-use mathlib.Core.Bool.{Bool, true}
+use mathlib.Core.Bool.{Bool, true, false}
+use mathlib.Core.Logic.{_≢_}
 use mathlib.Core.Path.{_≡_}
 use Prim.Native.Nat.{ℕ, _^_, _<_, _≤_}
 use lib.IntN.{ℤ, natAbs, _-ℤ_}
@@ -9,7 +10,7 @@ use Rattle.laws.specs.Choice.{both}
 use Rattle.laws.specs.Signed.{modulo}
 use Rattle.insn.specs.declared.Sign.{Sign}
 use Rattle.arithmetic.specs.Whole.{readAs}
-use Rattle.saturating.specs.Range.{lowest, highest, clamp}
+use Rattle.saturating.specs.Range.{lowest, highest, clamp, outside}
 
 -- a whole number is in the range
 abbrev pub within : Sign → ℕ → ℤ → Bool
@@ -31,3 +32,7 @@ NotMoved = (s : Sign) (w : ℕ) (z : ℤ) → within s w z ≡ true → clamp s 
 
 abbrev pub Nearest : Type 0
 Nearest = (s : Sign) (w : ℕ) (y z : ℤ) → within s w y ≡ true → natAbs (clamp s w z -ℤ z) ≤ natAbs (y -ℤ z)
+
+-- a number outside the range becomes another one, and no other number does
+abbrev pub OutsideMoved : Type 0
+OutsideMoved = (s : Sign) (w : ℕ) (z : ℤ) → (outside s w z ≡ true → clamp s w z ≢ z) × (outside s w z ≡ false → clamp s w z ≡ z)

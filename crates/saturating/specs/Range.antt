@@ -1,10 +1,11 @@
 -- The range of a lane of w bits, and what a saturating operation leaves, which stops at the ends of it.
--- From ARM DDI 0406C, A8.8, VQADD and VQSUB; and document 02, F-1.
+-- From ARM DDI 0406C, A8.8, VQADD and VQSUB; and document 02, F-1 and F-8.
 -- Assumes nothing.
+use mathlib.Core.Bool.{Bool}
 use Prim.Native.Nat.{ℕ, _-_, _^_}
 use lib.IntN.{ℤ, pos, negℤ, _+ℤ_, _-ℤ_}
 use lib.Signed.{ltZ}
-use Rattle.laws.specs.Choice.{choose}
+use Rattle.laws.specs.Choice.{choose, either}
 use Rattle.insn.specs.declared.Sign.{Sign}
 use Rattle.insn.specs.declared.Sign.the-variants.{Unsigned, Signed}
 use Rattle.saturating.specs.declared.SaturatingOp.{SaturatingOp}
@@ -22,6 +23,10 @@ highest Signed w = pos (2 ^ (w - 1) - 1)
 -- a whole number, moved to the nearer end of the range when outside it
 unfoldable pub clamp : Sign → ℕ → ℤ → ℤ
 clamp s w z = choose (ltZ z (lowest s w)) (lowest s w) (choose (ltZ (highest s w) z) (highest s w) z)
+
+-- whether it is outside the range, and so is moved
+abbrev pub outside : Sign → ℕ → ℤ → Bool
+outside s w z = either (ltZ z (lowest s w)) (ltZ (highest s w) z)
 
 -- the exact result, before it is moved: a and b are the lanes of the sources, as whole numbers
 abbrev pub exactSaturating : SaturatingOp → ℤ → ℤ → ℤ

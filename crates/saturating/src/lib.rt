@@ -10,7 +10,7 @@ ghost use lib.IntN.{pos, _+ℤ_, _-ℤ_};
 ghost use lib.Signed.{ltZ};
 ghost use Rattle.laws.specs.Signed.{modulo};
 ghost use Rattle.arithmetic.specs.Whole.{readAs};
-ghost use Rattle.saturating.specs.Range.{lowest, highest, clamp, exactSaturating};
+ghost use Rattle.saturating.specs.Range.{lowest, highest, clamp, outside, exactSaturating};
 
 // A saturating operation, one that stops at the ends of the range, by its instruction's name.
 pub enum SaturatingOp {
@@ -145,4 +145,15 @@ pub fn saturated(op: SaturatingOp, s: Sign, w: u32, x: u64, y: u64) -> u64
         return highest(s, w);
     }
     wrapped(op, w, x, y)
+}
+
+// Whether the exact result is outside the range, so that it is moved.
+pub fn moved(op: SaturatingOp, s: Sign, w: u32, x: u64, y: u64) -> bool
+    requires { ⌜ ((0 < w) × (w ≤ 64)) × ((x < 2 ^ w) × (y < 2 ^ w)) ⌝ }
+    ensures { λ r. ⌜ r ≡ outside s w (exactSaturating op (readAs s w x) (readAs s w y)) ⌝ }
+{
+    if below(op, s, w, x, y) {
+        return true;
+    }
+    above(op, s, w, x, y)
 }

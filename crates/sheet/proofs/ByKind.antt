@@ -23,6 +23,7 @@ use Rattle.forms.specs.declared.Form.{Form}
 use Rattle.insn.specs.Widths.{widthAt}
 use Rattle.meanings.specs.Meaning.{Act, repeated, on, countOf, meaningIn}
 use Rattle.operations.specs.Operations.{Sized}
+use Rattle.marks.proofs.Quiet.{Quiet}
 use Rattle.meanings.proofs.Actions.{repeated-lt}
 use Rattle.steps.specs.declared.Step.{Step}
 use Rattle.steps.specs.Meaning.{signOf}
@@ -74,10 +75,10 @@ q14 = quad-stands 14 (lit< tt)
 
 module _ (s : Step) where
   -- three rows of a name with no constant
-  plain : {name : String} {number cell : ℕ} {f : Form} (op : Operation) (x y z : ℕ) → Sized op → Known false name number (Same3 cell) → Means name f → countOf f ≡ 3
+  plain : {name : String} {number cell : ℕ} {f : Form} (op : Operation) (x y z : ℕ) → Sized op → Quiet op → Known false name number (Same3 cell) → Means name f → countOf f ≡ 3
       → ((a b c : Operand) → meaningIn f a b c ≡ on op a b c) → x < 14 → y < 14 → z < 14 → Does (threeOf name (Q x) (Q y) (Q z) ∷ []) (quad op x y z ∷ [])
-  plain op x y z sized known means counted meant hx hy hz =
-      (three-executes (reg x hx) (reg y hy) (reg z hz) op known means counted (meant (Q x) (Q y) (Q z)), (sized, tt))
+  plain op x y z sized quiet known means counted meant hx hy hz =
+      (three-executes (reg x hx) (reg y hy) (reg z hz) op quiet known means counted (meant (Q x) (Q y) (Q z)), (sized, tt))
 
   shifted : Kept (usesOf 10) s → (b : Bool) → eqb (s .amount) 0 ≡ b
       → Does (choose b (twoOf "vmov" (Q (s .target)) (Q (s .a))) (threeOf (sized (signed "vshr." (s .sign)) (s .width)) (Q (s .target)) (Q (s .a)) (immediate (s .amount))) ∷ [])
@@ -89,7 +90,7 @@ module _ (s : Step) where
       let h = p .amount in
       let small = at-most-64 {s = s .width} (omega (arith, p .width)) in
       let c = right-carried (s .width) (s .amount) (p .width) (omega arith) (omega arith) in
-      (shift-executes (Lanes (Shr (signOf (s .sign)) (s .amount)) (widthAt (s .width))) (s .amount) (c .0) (reg _ (p .target)) (reg _ (p .a)) (right-known (s .sign) (s .width) (p .width)) (right-classed (s .sign) (s .width) (p .width)) (right-means (s .sign) (s .width) (p .width)) (λ q. (refl, refl)) (omega arith) (c .1) refl, (tt, tt))
+      (shift-executes (Lanes (Shr (signOf (s .sign)) (s .amount)) (widthAt (s .width))) (s .amount) (c .0) (λ z n m. refl) (reg _ (p .target)) (reg _ (p .a)) (right-known (s .sign) (s .width) (p .width)) (right-classed (s .sign) (s .width) (p .width)) (right-means (s .sign) (s .width) (p .width)) (λ q. (refl, refl)) (omega arith) (c .1) refl, (tt, tt))
 
   -- the pairs of a step do its operations
   abbrev Written : ℕ → Type 0
@@ -104,35 +105,35 @@ module _ (s : Step) where
     (
       (λ p. (copy-executes copy-means (reg _ (p .target)) (reg _ (p .a)), (tt, tt))),
       (
-        (λ p. plain (Lanes Add _) _ _ _ tt (add-known _ (p .width)) (add-means _ (p .width)) refl (λ a b c. refl) (p .target) (p .a) (p .b)),
+        (λ p. plain (Lanes Add _) _ _ _ tt (λ z n m. refl) (add-known _ (p .width)) (add-means _ (p .width)) refl (λ a b c. refl) (p .target) (p .a) (p .b)),
         (
-          (λ p. plain (Lanes Sub _) _ _ _ tt (sub-known _ (p .width)) (sub-means _ (p .width)) refl (λ a b c. refl) (p .target) (p .a) (p .b)),
+          (λ p. plain (Lanes Sub _) _ _ _ tt (λ z n m. refl) (sub-known _ (p .width)) (sub-means _ (p .width)) refl (λ a b c. refl) (p .target) (p .a) (p .b)),
           (
-            (λ p. plain (Lanes Mul _) _ _ _ tt (mul-known _ (p .width)) (mul-means _ (p .width)) refl (λ a b c. refl) (p .target) (p .a) (p .b)),
+            (λ p. plain (Lanes Mul _) _ _ _ tt (λ z n m. refl) (mul-known _ (p .width)) (mul-means _ (p .width)) refl (λ a b c. refl) (p .target) (p .a) (p .b)),
             (
-              (λ p. plain (Bits And) _ _ _ tt and-known and-means refl (λ a b c. refl) (p .target) (p .a) (p .b)),
+              (λ p. plain (Bits And) _ _ _ tt (λ z n m. refl) and-known and-means refl (λ a b c. refl) (p .target) (p .a) (p .b)),
               (
-                (λ p. plain (Bits Orr) _ _ _ tt orr-known orr-means refl (λ a b c. refl) (p .target) (p .a) (p .b)),
+                (λ p. plain (Bits Orr) _ _ _ tt (λ z n m. refl) orr-known orr-means refl (λ a b c. refl) (p .target) (p .a) (p .b)),
                 (
-                  (λ p. plain (Bits Eor) _ _ _ tt eor-known eor-means refl (λ a b c. refl) (p .target) (p .a) (p .b)),
+                  (λ p. plain (Bits Eor) _ _ _ tt (λ z n m. refl) eor-known eor-means refl (λ a b c. refl) (p .target) (p .a) (p .b)),
                   (
                     (λ p. let c = set-carried 0 (lit< tt) in
-                        (number-executes 0 (c .0) q14 set-word-known set-word-means refl (c .1), (repeated-lt B32 0, (three-executes (reg _ (p .target)) q14 (reg _ (p .a)) (Bits Orn) orn-known orn-means refl refl, (tt, tt))))),
+                        (number-executes 0 (c .0) q14 set-word-known set-word-means refl (c .1), (repeated-lt B32 0, (three-executes (reg _ (p .target)) q14 (reg _ (p .a)) (Bits Orn) (λ z n m. refl) orn-known orn-means refl refl, (tt, tt))))),
                     (
                       (λ p. let h = p .amount in
                           let small = at-most-64 {s = s .width} (omega (arith, p .width)) in
                           let c = left-carried (s .width) (s .amount) (p .width) (p .amount) in
-                          (shift-executes (Lanes (Shl (s .amount)) (widthAt (s .width))) (s .amount) (c .0) (reg _ (p .target)) (reg _ (p .a)) (left-known (s .width) (p .width)) (left-classed (s .width) (p .width)) (left-means (s .width) (p .width)) (λ q. (refl, refl)) (omega arith) (c .1) refl, (tt, tt))),
+                          (shift-executes (Lanes (Shl (s .amount)) (widthAt (s .width))) (s .amount) (c .0) (λ z n m. refl) (reg _ (p .target)) (reg _ (p .a)) (left-known (s .width) (p .width)) (left-classed (s .width) (p .width)) (left-means (s .width) (p .width)) (λ q. (refl, refl)) (omega arith) (c .1) refl, (tt, tt))),
                       (
                         (λ p. shifted p (eqb (s .amount) 0) refl),
                         (
-                          (λ p. plain (Lanes (Max _) _) _ _ _ tt (max-known (s .sign) _ (p .width)) (max-means (s .sign) _ (p .width)) refl (λ a b c. refl) (p .target) (p .a) (p .b)),
+                          (λ p. plain (Lanes (Max _) _) _ _ _ tt (λ z n m. refl) (max-known (s .sign) _ (p .width)) (max-means (s .sign) _ (p .width)) refl (λ a b c. refl) (p .target) (p .a) (p .b)),
                           (
-                            (λ p. plain (Lanes (Min _) _) _ _ _ tt (min-known (s .sign) _ (p .width)) (min-means (s .sign) _ (p .width)) refl (λ a b c. refl) (p .target) (p .a) (p .b)),
+                            (λ p. plain (Lanes (Min _) _) _ _ _ tt (λ z n m. refl) (min-known (s .sign) _ (p .width)) (min-means (s .sign) _ (p .width)) refl (λ a b c. refl) (p .target) (p .a) (p .b)),
                             (
-                              (λ p. plain (Lanes (Cgt _) _) _ _ _ tt (greater-known (s .sign) _ (p .width)) (greater-means (s .sign) _ (p .width)) refl (λ a b c. refl) (p .target) (p .b) (p .a)),
+                              (λ p. plain (Lanes (Cgt _) _) _ _ _ tt (λ z n m. refl) (greater-known (s .sign) _ (p .width)) (greater-means (s .sign) _ (p .width)) refl (λ a b c. refl) (p .target) (p .b) (p .a)),
                               (
-                                (λ p. (copy-executes copy-means q14 (reg _ (p .c)), (tt, (three-executes q14 (reg _ (p .a)) (reg _ (p .b)) (Bits Bsl) bsl-known bsl-means refl refl, (tt, (copy-executes copy-means (reg _ (p .target)) q14, (tt, tt))))))),
+                                (λ p. (copy-executes copy-means q14 (reg _ (p .c)), (tt, (three-executes q14 (reg _ (p .a)) (reg _ (p .b)) (Bits Bsl) (λ z n m. refl) bsl-known bsl-means refl refl, (tt, (copy-executes copy-means (reg _ (p .target)) q14, (tt, tt))))))),
                                 tt,
                               ),
                             ),

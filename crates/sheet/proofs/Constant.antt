@@ -95,7 +95,7 @@ join-does : (r : ℕ) → r < 32 → Does (joinPairs r) (setMask ∷ joinHalves 
 unfolding joinPairs meaningIn
 join-does r hr = (
   number-executes 4294967295 (mask-carried .0) (double-stands 30 (lit< tt)) set-long-known set-long-means refl (mask-carried .1),
-  (repeated-lt B64 4294967295, (three-executes (double-stands r hr) (double-stands 28 (lit< tt)) (double-stands 30 (lit< tt)) (Bits Bif) bif-known bif-means refl refl, (tt, tt))),
+  (repeated-lt B64 4294967295, (three-executes (double-stands r hr) (double-stands 28 (lit< tt)) (double-stands 30 (lit< tt)) (Bits Bif) (λ z n m. refl) bif-known bif-means refl refl, (tt, tt))),
 )
 
 pub recipe-does : (r : ℕ) (h : Recipe) → r < 32 → Does (recipePairs r h) (recipeActs r h)

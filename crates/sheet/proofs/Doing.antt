@@ -1,14 +1,17 @@
--- Records one after another: their halfwords, and what these do to a file.
+-- Records one after another: their halfwords, and what these do to a state.
 -- Assumes nothing.
 use mathlib.Core.Path.{_≡_, refl}
 use mathlib.Core.List.{List, [], _∷_, _++_}
+use Prim.Native.Nat.{ℕ, zero, suc}
 use lib.ListN.{length}
 use Rattle.laws.specs.Answer.{accepted}
 use Rattle.insn.specs.declared.Insn.{Insn}
 use Rattle.effects.specs.File.{File, Good}
 use Rattle.meanings.specs.Meaning.{Act}
 use Rattle.meanings.proofs.Actions.{Sound}
-use Rattle.runs.specs.Run.{stepsBy, machineSteps}
+use Rattle.machine.specs.declared.State.{State}
+use Rattle.machine.specs.State.{state}
+use Rattle.runs.specs.Run.{runBy, stepsBy, runPairs, machineSteps}
 use Rattle.effects.specs.Effect.{effect}
 use Rattle.effects.proofs.Effects.{effect-good}
 use Rattle.recipes.specs.Pairs.{halfwordsOf}
@@ -54,9 +57,20 @@ doing-good (i ∷ is) [] file d g = absurd d
 doing-good (i ∷ is) (x ∷ xs) file d g = doing-good is xs (effect x file) (d .1 .1) (effect-good x file (d .1 .0) g)
 
 -- a machine step a record
-pub code-steps : (is : List Insn) (xs : List Act) (file : File) → Does is xs → machineSteps (length is) (halfwordsOf is) file ≡ accepted (doing xs file)
+pub code-steps : (is : List Insn) (xs : List Act) (s : State) → Does is xs
+    → machineSteps (length is) (halfwordsOf is) s ≡ accepted (state (doing xs (s .file)) (s .mark))
 unfolding halfwordsOf stepsBy doing
-code-steps [] [] file d = refl
-code-steps [] (x ∷ xs) file d = absurd d
-code-steps (i ∷ is) [] file d = absurd d
-code-steps (i ∷ is) (x ∷ xs) file d = rw (d .0 .writes .wrote, d .0 .stepped file) (code-steps is xs (effect x file) (d .1 .1))
+code-steps [] [] s d = refl
+code-steps [] (x ∷ xs) s d = absurd d
+code-steps (i ∷ is) [] s d = absurd d
+code-steps (i ∷ is) (x ∷ xs) s d = rw (d .0 .writes .wrote, d .0 .stepped s) (code-steps is xs (state (effect x (s .file)) (s .mark)) (d .1 .1))
+
+-- with any budget, the run of their pairs leaves the mark as it was
+pub run-unmarked : (is : List Insn) (xs : List Act) (budget : ℕ) (s : State) → Does is xs → runPairs (halfwordsOf is) budget s .state .mark ≡ s .mark
+unfolding halfwordsOf runBy
+run-unmarked [] [] budget s d = refl
+run-unmarked [] (x ∷ xs) budget s d = absurd d
+run-unmarked (i ∷ is) [] budget s d = absurd d
+run-unmarked (i ∷ is) (x ∷ xs) zero s d = rw (d .0 .writes .wrote)
+run-unmarked (i ∷ is) (x ∷ xs) (suc budget) s d =
+    rw (d .0 .writes .wrote, d .0 .stepped s) (run-unmarked is xs budget (state (effect x (s .file)) (s .mark)) (d .1 .1))

@@ -1,6 +1,6 @@
 -- Records whose pair does an operation on registers.
 -- Assumes nothing.
-use mathlib.Core.Path.{_≡_, ap, _∙_}
+use mathlib.Core.Path.{_≡_, refl, ap, _∙_}
 use mathlib.Core.Bool.{Bool, true, false}
 use Prim.Native.Nat.{ℕ, _*_, _/_, _≤_, _<_}
 use Prim.Native.String.{String}
@@ -8,6 +8,8 @@ use lib.IntN.{pos}
 use lib.Text.{eqt}
 use borrow.Author.Tests.{lt-ltb, le-leb}
 use Rattle.laws.specs.Answer.{accepted}
+use Rattle.laws.specs.Choice.{either}
+use Rattle.laws.proofs.Some.{either-none}
 use Rattle.insn.specs.declared.Insn.{Insn}
 use Rattle.insn.specs.declared.Operand.{Operand}
 use Rattle.insn.specs.declared.Operand.the-variants.{D, Q, Imm, Absent}
@@ -24,11 +26,14 @@ use Rattle.insn.specs.declared.Width.{Width}
 use Rattle.operations.specs.declared.BitOp.the-variants.{Mov}
 use Rattle.operations.specs.declared.ConstantOp.{ConstantOp}
 use Rattle.operations.specs.declared.Operation.{Operation}
+use Rattle.meanings.specs.declared.Registers.{Registers}
+use Rattle.marks.proofs.Quiet.{Quiet}
 use Rattle.operations.specs.declared.Operation.the-variants.{Bits as Bitwise, Constant}
 use Rattle.forms.specs.declared.Direction.{Direction}
 use Rattle.forms.specs.declared.Form.{Form}
 use Rattle.forms.specs.declared.Form.the-variants as form
-use Rattle.effects.specs.File.{File}
+use Rattle.machine.specs.declared.State.{State}
+use Rattle.machine.specs.State.{state, acted}
 use Rattle.forms.specs.Forms.{formOf}
 use Rattle.meanings.specs.Meaning.{Act, act, registers, on, wholePattern, repeated, shifting, countOf, meaningIn, meaningOf}
 use Rattle.meanings.proofs.Actions.{on-alike}
@@ -45,10 +50,15 @@ use Rattle.insn.specs.Widths.{bitsOf}
 use Rattle.insn.proofs.Sizes.{bits-le}
 use native.Mathlib.Omega.{arith}
 
--- a record is written as a pair, and the pair's step is the act's effect
+-- a record is written as a pair, and the pair's step is the act's effect, with the mark as it was
 pub record Executes (i : Insn) (x : Act) : Type 0 where
   pub writes : Writes i
-  pub stepped : (file : File) → stepPair (writes .hw1) (writes .hw2) file ≡ accepted (effect x file)
+  pub stepped : (s : State) → stepPair (writes .hw1) (writes .hw2) s ≡ accepted (state (effect x (s .file)) (s .mark))
+
+-- what an operation that moves no lane does to a state
+quietly : (op : Operation) (r : Registers) (s : State) → Quiet op → acted (act op r) s ≡ state (effect (act op r) (s .file)) (s .mark)
+unfolding acted
+quietly op r s quiet = ap (state (effect (act op r) (s .file))) (ap (either (s .mark)) (quiet _ _ _) ∙ either-none (s .mark))
 
 -- an operand that is register number d, written and read
 pub record Stands (quad : Bool) (x : Operand) (d : ℕ) : Type 0 where
@@ -74,41 +84,41 @@ pub record Means (name : String) (f : Form) : Type 0 where
   pub formed : formOf name ≡ f
 
 module _ {q : Bool} {x y z : Operand} {d n m : ℕ} (ix : Stands q x d) (iy : Stands q y n) (iz : Stands q z m) where
-  pub three-executes : {name : String} {number cell : ℕ} {f : Form} (op : Operation) → Known false name number (Same3 cell) → Means name f → countOf f ≡ 3
+  pub three-executes : {name : String} {number cell : ℕ} {f : Form} (op : Operation) → Quiet op → Known false name number (Same3 cell) → Means name f → countOf f ≡ 3
       → meaningIn f x y z ≡ on op x y z → Executes (threeOf name x y z) (act op (registers q d n m))
   unfolding placeAt meaningOf stepBy
-  three-executes {name} op k means counted meant =
+  three-executes {name} op quiet k means counted meant =
       let w = three-writes (ix .is) (iy .is) (iz .is) k in
       record {
         writes = w;
-        stepped = λ file. three-back (numberOf name) x y z (rw (k .back) (means .plain)) (w .hw1) (w .hw2) (iy .held) file (w .wrote)
-            ∙ rw (k .back, means .formed, counted, meant, acts op ix iy iz);
+        stepped = λ s. three-back (numberOf name) x y z (rw (k .back) (means .plain)) (w .hw1) (w .hw2) (iy .held) s (w .wrote)
+            ∙ rw (k .back, means .formed, counted, meant, acts op ix iy iz) (ap accepted (quietly op (registers q d n m) s quiet));
       }
 
 -- VMOV of a register
 pub copy-executes : Means "vmov" form.Copy → {q : Bool} {x y : Operand} {d n : ℕ} → Stands q x d → Stands q y n
     → Executes (twoOf "vmov" x y) (act (Bitwise Mov) (registers q d n n))
 unfolding placeAt meaningOf meaningIn stepBy
-copy-executes means {q} {x} {y} ix iy =
+copy-executes means {q} {x} {y} {d} {n} ix iy =
     let w = copy-writes (ix .is) (iy .is) in
     record {
       writes = w;
-      stepped = λ file. two-back (numberOf "vmov") x y Absent (rw (copy-known .back) (means .plain)) (w .hw1) (w .hw2) (iy .held) file (rw (copy-known .back)) (w .wrote)
-          ∙ rw (copy-known .back, means .formed, acts (Bitwise Mov) ix iy iy);
+      stepped = λ s. two-back (numberOf "vmov") x y Absent (rw (copy-known .back) (means .plain)) (w .hw1) (w .hw2) (iy .held) s (rw (copy-known .back)) (w .wrote)
+          ∙ rw (copy-known .back, means .formed, acts (Bitwise Mov) ix iy iy) (ap accepted (quietly (Bitwise Mov) (registers q d n n) s (λ z n m. refl)));
     }
 
 -- a shift by a number, of registers of one length
-pub shift-executes : {q : Bool} {x y : Operand} {d n : ℕ} {name : String} {class : ShiftClass} {number column cell : ℕ} {way : Direction} {w : Width} (op : Operation) (k amount : ℕ)
+pub shift-executes : {q : Bool} {x y : Operand} {d n : ℕ} {name : String} {class : ShiftClass} {number column cell : ℕ} {way : Direction} {w : Width} (op : Operation) (k amount : ℕ) → Quiet op
     → Stands q x d → Stands q y n → Known true name number (Shift cell) → Classed class column cell → Means name (form.Shift way w) → Alike class → k ≤ 64
     → amountIn class column (Imm (pos k)) ≡ accepted amount → shifting way w k x y ≡ on op x y y
     → Executes (threeOf name x y (Imm (pos k))) (act op (registers q d n n))
 unfolding placeAt meaningOf meaningIn wholePattern stepBy
-shift-executes {q} {x} {y} {d} {n} {name} {class} {number} {column} {cell} {way} {w} op k amount ix iy known classed means same h found meant =
+shift-executes {q} {x} {y} {d} {n} {name} {class} {number} {column} {cell} {way} {w} op k amount quiet ix iy known classed means same h found meant =
     let p = shift-writes k amount (ix .is) (iy .is) known classed same found in
     record {
       writes = p;
-      stepped = λ file. three-back (numberOf name) x y (Imm (pos k)) (rw (known .back) (means .plain)) (p .hw1) (p .hw2) (iy .held) file (p .wrote)
-          ∙ rw (known .back, means .formed, modulo-pos 64 k (omega arith), le-leb k 64 h, meant, acts op ix iy iy);
+      stepped = λ s. three-back (numberOf name) x y (Imm (pos k)) (rw (known .back) (means .plain)) (p .hw1) (p .hw2) (iy .held) s (p .wrote)
+          ∙ rw (known .back, means .formed, modulo-pos 64 k (omega arith), le-leb k 64 h, meant, acts op ix iy iy) (ap accepted (quietly op (registers q d n n) s quiet));
     }
 
 -- a whole number's 64 bits are repeated as it is
@@ -125,6 +135,7 @@ number-executes {q} {x} {d} {name} {number} {cell} {op} {w} v place ix known mea
     let p = number-writes v place (ix .is) known found in
     record {
       writes = p;
-      stepped = λ file. two-back (numberOf name) x (Imm (pos v)) Absent (rw (known .back) (means .plain)) (p .hw1) (p .hw2) tt file (rw (known .back) other) (p .wrote)
-          ∙ rw (known .back, means .formed, repeated-whole w v, acts (Constant op (repeated w v)) ix ix ix);
+      stepped = λ s. two-back (numberOf name) x (Imm (pos v)) Absent (rw (known .back) (means .plain)) (p .hw1) (p .hw2) tt s (rw (known .back) other) (p .wrote)
+          ∙ rw (known .back, means .formed, repeated-whole w v, acts (Constant op (repeated w v)) ix ix ix)
+          (ap accepted (quietly (Constant op (repeated w v)) (registers q d d d) s (λ z n m. refl)));
     }

@@ -12,12 +12,12 @@ pub sheetsHold : SheetsHold
 sheetsHold = sheets-hold
 
 pub evaluationsApart : EvaluationsApart
-evaluationsApart (Ran x) (Ran y) f g e = ap Ran (runsApart x y f g (cc) .0)
-evaluationsApart (Ran x) (Refused v) f g e = never (cc)
-evaluationsApart (Ran x) (RefusedAt v j) f g e = never (cc)
-evaluationsApart (Refused u) (Ran y) f g e = never (cc)
-evaluationsApart (Refused u) (Refused v) f g e = ap Refused (numberedApart u v (cc))
-evaluationsApart (Refused u) (RefusedAt v j) f g e = never (cc)
-evaluationsApart (RefusedAt u i) (Ran y) f g e = never (cc)
-evaluationsApart (RefusedAt u i) (Refused v) f g e = never (cc)
-evaluationsApart (RefusedAt u i) (RefusedAt v j) f g e = let k = numberedApart u v (cc) in let l : i ≡ j = cc in λ x. RefusedAt (k x) (l x)
+evaluationsApart (Ran x) (Ran y) s t e = ap Ran (runsApart x y s t (cc) .0)
+evaluationsApart (Ran x) (Refused v) s t e = never (cc)
+evaluationsApart (Ran x) (RefusedAt v j) s t e = never (cc)
+evaluationsApart (Refused u) (Ran y) s t e = never (cc)
+evaluationsApart (Refused u) (Refused v) s t e = ap Refused (numberedApart u v (cc))
+evaluationsApart (Refused u) (RefusedAt v j) s t e = never (cc)
+evaluationsApart (RefusedAt u i) (Ran y) s t e = never (cc)
+evaluationsApart (RefusedAt u i) (Refused v) s t e = never (cc)
+evaluationsApart (RefusedAt u i) (RefusedAt v j) s t e = let k = numberedApart u v (cc) in let l : i ≡ j = cc in λ x. RefusedAt (k x) (l x)

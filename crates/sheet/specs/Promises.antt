@@ -4,19 +4,19 @@ use mathlib.Core.List.{List}
 use mathlib.Core.Path.{_≡_}
 use Prim.Native.Nat.{ℕ, _^_, _<_}
 use lib.ListN.{getD}
-use Rattle.effects.specs.File.{File}
+use Rattle.machine.specs.declared.State.{State}
 use Rattle.translator.specs.Translation.{writtenOf}
 use Rattle.sheet.specs.declared.Evaluation.{Evaluation}
 use Rattle.sheet.specs.Answers.{evaluationAnswer}
 use Rattle.sheet.specs.Demand3.{Demand3}
-use Rattle.sheet.specs.Evaluation.{evaluationOf, fileLeft}
+use Rattle.sheet.specs.Evaluation.{evaluationOf, stateLeft}
 
--- demand 3, for every list of bytes, every output, every file of 64-bit numbers and every budget
+-- demand 3, for every list of bytes, every output, every file of 64-bit numbers with every mark, and every budget
 abbrev pub SheetsHold : Type 0
 SheetsHold =
-    (bytes out : List ℕ) (file : File) (budget : ℕ) → ((k : ℕ) → getD file k 0 < 2 ^ 64)
-    → Demand3 bytes out file budget (writtenOf bytes out) (fileLeft (evaluationOf bytes out file budget) file) (evaluationOf bytes out file budget)
+    (bytes out : List ℕ) (s : State) (budget : ℕ) → ((k : ℕ) → getD (s .file) k 0 < 2 ^ 64)
+    → Demand3 bytes out s budget (writtenOf bytes out) (stateLeft (evaluationOf bytes out s budget) s) (evaluationOf bytes out s budget)
 
 -- an answer says which case it is
 abbrev pub EvaluationsApart : Type 0
-EvaluationsApart = (x y : Evaluation) (f g : File) → evaluationAnswer x f ≡ evaluationAnswer y g → x ≡ y
+EvaluationsApart = (x y : Evaluation) (s t : State) → evaluationAnswer x s ≡ evaluationAnswer y t → x ≡ y

@@ -1,9 +1,10 @@
 // Sum sheets translated and run.
 ghost use mathlib.Core.Path.{_≡_};
 ghost use Rattle.translator.specs.Translation.{writtenOf};
+ghost use Rattle.machine.specs.State.{state};
 ghost use Rattle.sheet.specs.Answers.{evaluationAnswer};
 ghost use Rattle.sheet.specs.Demand3.{Demand3};
-ghost use Rattle.sheet.specs.Evaluation.{evaluationOf, fileLeft};
+ghost use Rattle.sheet.specs.Evaluation.{evaluationOf, stateLeft};
 use insn::Refusal;
 use runs::Ran;
 use runs::run;
@@ -17,17 +18,23 @@ pub enum Evaluation {
     RefusedAt(Refusal, u64),
 }
 
-// Translates a sheet into the output, and runs the pairs that were written on the file.
-pub fn evaluate(sheet: &[u8], out: &mut [u16], file: &mut [u64], budget: u64) -> Evaluation
-    ensures answer { λ r. ⌜ evaluationAnswer r (now (file .exit)) ≡ evaluationOf (now (sheet .entry)) (now (out .entry)) (now (file .entry)) budget ⌝ }
+// Translates a sheet into the output, and runs the pairs that were written on the file and the mark.
+pub fn evaluate(
+    sheet: &[u8],
+    out: &mut [u16],
+    file: &mut [u64],
+    budget: u64,
+    mark: &mut bool,
+) -> Evaluation
+    ensures answer { λ r. ⌜ evaluationAnswer r (state (now (file .exit)) (now (mark .exit))) ≡ evaluationOf (now (sheet .entry)) (now (out .entry)) (state (now (file .entry)) (now (mark .entry))) budget ⌝ }
     ensures written { λ r. ⌜ now (out .exit) ≡ writtenOf (now (sheet .entry)) (now (out .entry)) ⌝ }
-    ensures file { λ r. ⌜ now (file .exit) ≡ fileLeft (evaluationOf (now (sheet .entry)) (now (out .entry)) (now (file .entry)) budget) (now (file .entry)) ⌝ }
-    ensures demand3 { λ r. ⌜ Demand3 (now (sheet .entry)) (now (out .entry)) (now (file .entry)) budget (now (out .exit)) (now (file .exit)) (evaluationAnswer r (now (file .exit))) ⌝ }
+    ensures left { λ r. ⌜ state (now (file .exit)) (now (mark .exit)) ≡ stateLeft (evaluationOf (now (sheet .entry)) (now (out .entry)) (state (now (file .entry)) (now (mark .entry))) budget) (state (now (file .entry)) (now (mark .entry))) ⌝ }
+    ensures demand3 { λ r. ⌜ Demand3 (now (sheet .entry)) (now (out .entry)) (state (now (file .entry)) (now (mark .entry))) budget (now (out .exit)) (state (now (file .exit)) (now (mark .exit))) (evaluationAnswer r (state (now (file .exit)) (now (mark .exit)))) ⌝ }
 {
     let t = translate(sheet, out);
     match t {
         Translation::Pairs(n) => {
-            let ran = run(&out[..2 * n as usize], 0, file, budget);
+            let ran = run(&out[..2 * n as usize], 0, file, budget, mark);
             Evaluation::Ran(ran)
         }
         Translation::Refused(r) => Evaluation::Refused(r),

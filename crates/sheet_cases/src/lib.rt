@@ -65,19 +65,33 @@ fn refused(f: Refusal, index: u64) -> Answer {
 }
 
 // The first n pairs of the output, run from a start on.
-fn executed(out: &[u16], n: u64, start: u64, file: &mut [u64], budget: u64) -> Answer {
+fn executed(
+    out: &[u16],
+    n: u64,
+    start: u64,
+    file: &mut [u64],
+    budget: u64,
+    mark: &mut bool,
+) -> Answer {
     let end = 2 * (n % 10000) as usize;
     if out.len() < end {
         return refused(Refusal::ShortOutput, 0);
     }
-    ended(run(&out[..end], start, file, budget))
+    ended(run(&out[..end], start, file, budget, mark))
 }
 
 // A sheet translated, and its pairs run from a start on.
-fn called(sheet: &[u8], out: &mut [u16], start: u64, file: &mut [u64], budget: u64) -> Answer {
+fn called(
+    sheet: &[u8],
+    out: &mut [u16],
+    start: u64,
+    file: &mut [u64],
+    budget: u64,
+    mark: &mut bool,
+) -> Answer {
     let t = translator::translate(sheet, out);
     match t {
-        Translation::Pairs(n) => executed(out, n, start, file, budget),
+        Translation::Pairs(n) => executed(out, n, start, file, budget, mark),
         Translation::Refused(f) => refused(f, 0),
         Translation::RefusedAt(f, i) => refused(f, i),
     }
@@ -95,7 +109,8 @@ fn left(line: &[u8; 1105], out: &[u16; 10304], file: [u64; 32]) -> bool {
     check(out) == field(line, 62, 16) && same_file(file, file_at(line, 592))
 }
 
-// Whether a case's sheet is answered as its line says, and leaves the output and the file that it says.
+// Whether a case's sheet is answered as its line says, leaves the output and the file that it says, and the mark as it
+// came: yes where the output's length is odd.
 pub fn agrees(line: &[u8; 1105], sheet: &[u8]) -> bool {
     let mut out = [0x5555u16; 10304];
     let mut file = file_at(line, 79);
@@ -103,6 +118,15 @@ pub fn agrees(line: &[u8; 1105], sheet: &[u8]) -> bool {
     let budget = field(line, 32, 16);
     let room = (field(line, 5, 4) % 10304) as usize;
     let words = (field(line, 27, 4) % 33) as usize;
-    let a = called(sheet, &mut out[..room], start, &mut file[..words], budget);
-    said(line, a) && left(line, &out, file)
+    let before = room % 2 == 1;
+    let mut mark = before;
+    let a = called(
+        sheet,
+        &mut out[..room],
+        start,
+        &mut file[..words],
+        budget,
+        &mut mark,
+    );
+    said(line, a) && left(line, &out, file) && mark == before
 }

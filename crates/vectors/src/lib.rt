@@ -3,6 +3,7 @@ use insn::Insn;
 use insn::Mark;
 use insn::Operand;
 use machine::Outcome;
+use machine::State;
 use replay::field;
 use replay::same_file;
 
@@ -64,7 +65,8 @@ fn insn_of(mnemonic: u16, count: u8, first: Operand, second: Operand, third: Ope
     }
 }
 
-// The record of a shape: copy, shift, number, float; three registers with one out of range, of two sizes, with the count 2; or three registers.
+// The record of a shape: copy, shift, number, float; three registers with one out of range, of two sizes, with the count 2; or three registers,
+// m where the mark is to turn.
 fn record(mnemonic: u16, shape: u8, v: u64, quad: bool) -> Insn {
     let a = register(quad, 0);
     let b = register(quad, 1);
@@ -131,11 +133,12 @@ fn start_of(line: &[u8; 153]) -> [u64; 32] {
     file
 }
 
-// Whether a step has the refusal's number, 0 for done, and leaves the file `after`.
-fn steps(file: [u64; 32], i: Insn, number: u8, after: [u64; 32]) -> bool {
-    let s = machine::step_insn(file, i);
+// Whether a step on a file, with a mark, has the refusal's number, 0 for done, and leaves the file `after` with a mark.
+fn steps(file: [u64; 32], mark: bool, i: Insn, number: u8, after: [u64; 32], marked: bool) -> bool {
+    let s = machine::step_insn(State { file, mark }, i);
     let outcome = s.outcome;
-    let left = s.file;
+    let state = s.state;
+    let left = state.file;
     let got = match outcome {
         Outcome::Done => 0,
         Outcome::Refused(f) => insn::refusal_number(f),
@@ -143,7 +146,18 @@ fn steps(file: [u64; 32], i: Insn, number: u8, after: [u64; 32]) -> bool {
     if got != number {
         return false;
     }
+    if state.mark != marked {
+        return false;
+    }
     same_file(left, after)
+}
+
+// The same from a mark that is no, which the step turns or does not; and one that is yes stays.
+fn steps_marked(file: [u64; 32], i: Insn, number: u8, after: [u64; 32], turned: bool) -> bool {
+    if !steps(file, false, i, number, after, turned) {
+        return false;
+    }
+    steps(file, true, i, number, after, true)
 }
 
 // Whether the line's vector passes, on doublewords or on quadwords. The shapes before the small letters are refused.
@@ -156,7 +170,7 @@ pub fn passes(line: &[u8; 100], quad: bool) -> bool {
         field(line, 66, 16),
     );
     if shape < b'a' {
-        return steps(file, i, 10, file);
+        return steps_marked(file, i, 10, file, false);
     }
     let result = field(line, 83, 16);
     let mut after = file;
@@ -164,17 +178,23 @@ pub fn passes(line: &[u8; 100], quad: bool) -> bool {
     if quad {
         after[1] = result;
     }
-    steps(file, i, 0, after)
+    steps_marked(file, i, 0, after, shape == b'm')
 }
 
-// Whether the line's vector passes on registers of different lengths, and is refused where the mark says so.
-pub fn passes_unlike(line: &[u8; 153], mark: u8) -> bool {
+// Whether the line's vector passes on registers of different lengths: after the sign + the mark turns, after ! it is refused.
+pub fn passes_unlike(line: &[u8; 153], sign: u8) -> bool {
     let i = lettered(mnemonic_of(line), line, 13, field(line, 18, 2));
     let file = start_of(line);
     let mut after = file;
     after[0] = field(line, 136, 16);
     after[1] = field(line, 120, 16);
-    steps(file, i, if mark == b'!' { 10 } else { 0 }, after)
+    steps_marked(
+        file,
+        i,
+        if sign == b'!' { 10 } else { 0 },
+        after,
+        sign == b'+',
+    )
 }
 
 // Whether a mnemonic has a meaning with the operands of vaddl, vaddw, vaddhn, vmovl, vshll or vshrn.
@@ -182,7 +202,7 @@ fn has_unlike_meaning(mnemonic: u16) -> bool {
     let file = start(0, 1, 2);
     for k in 0..6u8 {
         let i = lettered(mnemonic, b"3qdd3qqd3dqq2qd-3qd#3dq#", 4 * k, 1);
-        if !steps(file, i, 10, file) {
+        if !steps(file, false, i, 10, file, false) {
             return true;
         }
     }
@@ -194,7 +214,8 @@ fn has_meaning(mnemonic: u16) -> bool {
     let shapes = [b'r', b'c', b's', b'n', b'f'];
     let file = start(0, 1, 2);
     for k in 0..5usize {
-        if !steps(file, record(mnemonic, shapes[k], 64, false), 10, file) {
+        let i = record(mnemonic, shapes[k], 64, false);
+        if !steps(file, false, i, 10, file, false) {
             return true;
         }
     }

@@ -8,6 +8,8 @@ use borrow.Author.Needs.{needs}
 use Rattle.laws.specs.Answer.{accepted}
 use Rattle.runs.specs.Answers.{ranOf}
 use Rattle.runs.specs.Run.{Run, runPairs, stepsBy, machineSteps}
+use Rattle.effects.specs.File.{File}
+use Rattle.machine.specs.State.{state}
 use Rattle.machine.specs.Step.{stepPair}
 use Rattle.runs.proofs.AnyRuns.{counted}
 use Rattle.runs.proofs.Runs.{odd-code, other-file, past-end, runs}
@@ -18,31 +20,32 @@ returns : tie.Need-returns
 unfolding stepsBy
 returns c =
     let a = c .before .before .before .args in
-    (sym (odd-code (a .code .now) (a .start) (a .file .now) (a .budget) (c .if1 .taken)), refl)
+    (sym (odd-code (a .code .now) (a .start) (state (a .file .now) (a .mark .now)) (a .budget) (c .if1 .taken)), refl)
 
 returns-2 : tie.Need-returns-2
 unfolding stepsBy
 returns-2 c =
     let a = c .before .before .before .before .args in
-    (sym (other-file (a .code .now) (a .start) (a .file .now) (a .budget) (omega arith) (c .if2 .taken)), refl)
+    (sym (other-file (a .code .now) (a .start) (state (a .file .now) (a .mark .now)) (a .budget) (omega arith) (c .if2 .taken)), refl)
 
 returns-3 : tie.Need-returns-3
 unfolding stepsBy
 returns-3 c =
     let a = c .before .before .before .before .before .args in
-    (sym (past-end (a .code .now) (a .start) (a .file .now) (a .budget) (omega arith) (omega arith) (omega arith)), refl)
+    (sym (past-end (a .code .now) (a .start) (state (a .file .now) (a .mark .now)) (a .budget) (omega arith) (omega arith) (omega arith)), refl)
 
 returns-4 : tie.Need-returns-4
 returns-4 c =
     let s = c .before .before .before in
-    let g = s .before .before .before in
+    let g = s .before .before .before .before in
     let a = g .before .before .before .before .before .before .before .before .args in
-    let k : s .store .last .0 ≡ g .go .result .file = s .store .ensures in
-    let e : ranOf (g .go .result .ran) (s .store .last .0) ≡ runPairs (drop (2 * a .start) (a .code .now)) (a .budget) (a .file .now) =
-    rw k (g .go .ensures ∙ ap (runPairs (drop (2 * a .start) (a .code .now)) (a .budget)) (g .before .load .ensures)) in (
-      e ∙ sym (runs (a .code .now) (a .start) (a .file .now) (a .budget) (omega arith) (omega arith) (omega arith)),
-      subst (λ (r : Run). machineSteps (r .executed) (drop (2 * a .start) (a .code .now)) (a .file .now) ≡ accepted (r .file)) (sym e)
-          (counted stepPair (drop (2 * a .start) (a .code .now)) (a .budget) (a .file .now)),
+    let rest = drop (2 * a .start) (a .code .now) in
+    let lent = state (a .file .now) (a .mark .now) in
+    let k : s .store .last .0 ≡ g .go .result .state .file = s .store .ensures in
+    let e : ranOf (g .go .result .ran) (state (s .store .last .0) (g .go .result .state .mark)) ≡ runPairs rest (a .budget) lent =
+    rw k (g .go .ensures ∙ ap (λ (f : File). runPairs rest (a .budget) (state f (a .mark .now))) (g .before .load .ensures)) in (
+      e ∙ sym (runs (a .code .now) (a .start) lent (a .budget) (omega arith) (omega arith) (omega arith)),
+      subst (λ (r : Run). machineSteps (r .executed) rest lent ≡ accepted (r .state)) (sym e) (counted stepPair rest (a .budget) lent),
     )
 
 pub run-spec : {M : Type 1} → statement M

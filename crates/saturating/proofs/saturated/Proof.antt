@@ -5,7 +5,7 @@ use native.Mathlib.Omega.{arith}
 use borrow.Author.Needs.{needs}
 use Rattle.arithmetic.specs.Whole.{readAs}
 use Rattle.saturating.specs.Range.{exactSaturating}
-use Rattle.saturating.proofs.Moved.{low-lane, high-lane, own-lane, from-zero}
+use Rattle.saturating.proofs.Sides.{low-lane, high-lane, own-lane, from-zero}
 use Rattle.saturating.proofs.saturated.Statement.{statement}
 use Rattle.saturating.proofs.saturated.Tie as tie
 

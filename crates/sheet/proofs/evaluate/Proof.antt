@@ -4,6 +4,7 @@ use mathlib.Core.Path.{sym, _∙_, ap}
 use native.Mathlib.Omega.{arith}
 use lib.Seq.{length-take-le}
 use borrow.Author.Needs.{needs}
+use Rattle.machine.specs.State.{state}
 use Rattle.translator.specs.Answers.{translationAnswer}
 use Rattle.sheet.proofs.Whole.{after-run, after-refusal, after-refusal-at, prefix}
 use Rattle.sheet.proofs.evaluate.Statement.{statement}
@@ -32,24 +33,26 @@ slice-aggregate-run c =
 
 returns : tie.Need-returns
 returns c =
-    let a = c .before .before .before .before .before .before .before .before .before .before .before .before .before .before .before .args in
-    let t = c .before .before .before .before .before .before .before .before .before .before .translate in
-    let e = sym (t .ensures .0) ∙ ap translationAnswer (c .before .before .before .before .before .before .t .given .1) in
-    after-run (a .sheet .now) (a .out .now) (a .file .now) (a .budget) (λ i. omega (arith, c .before .before .before .before .before .before .before .before .before .before .before .before .slice-known2 .given i)) _ (t .ensures .1) _ _ e (c .before .before .run .ensures .0)
+    let b = c .before .before .before .before .before .before .before in
+    let t = b .before .before .before .before .translate in
+    let s = b .before .before .before .before .before .before in
+    let a = s .before .before .before .args in
+    let e = sym (t .ensures .0) ∙ ap translationAnswer (b .t .given .1) in
+    after-run (a .sheet .now) (a .out .now) (state (a .file .now) (a .mark .now)) (a .budget) (λ i. omega (arith, s .slice-known2 .given i)) _ (t .ensures .1) _ _ e (c .before .before .run .ensures .0)
 
 returns-2 : tie.Need-returns-2
 returns-2 c =
     let a = c .before .before .before .before .before .before .before .before .before .before .args in
     let t = c .before .before .before .before .before .translate in
     let e = sym (t .ensures .0) ∙ ap translationAnswer (c .before .t2 .given .1) in
-    after-refusal (a .sheet .now) (a .out .now) (a .file .now) (a .budget) (λ i. omega (arith, c .before .before .before .before .before .before .before .slice-known2 .given i)) _ (t .ensures .1) _ e
+    after-refusal (a .sheet .now) (a .out .now) (state (a .file .now) (a .mark .now)) (a .budget) (λ i. omega (arith, c .before .before .before .before .before .before .before .slice-known2 .given i)) _ (t .ensures .1) _ e
 
 returns-3 : tie.Need-returns-3
 returns-3 c =
     let a = c .before .before .before .before .before .before .before .before .before .before .args in
     let t = c .before .before .before .before .before .translate in
     let e = sym (t .ensures .0) ∙ ap translationAnswer (c .before .t3 .given .1) in
-    after-refusal-at (a .sheet .now) (a .out .now) (a .file .now) (a .budget) (λ i. omega (arith, c .before .before .before .before .before .before .before .slice-known2 .given i)) _ (t .ensures .1) _ _ e
+    after-refusal-at (a .sheet .now) (a .out .now) (state (a .file .now) (a .mark .now)) (a .budget) (λ i. omega (arith, c .before .before .before .before .before .before .before .slice-known2 .given i)) _ (t .ensures .1) _ _ e
 
 pub evaluate-spec : {M : Type 1} → statement M
 evaluate-spec =
