@@ -8,8 +8,7 @@ use lib.ListN.{length, getD, take}
 use mir.Val.{boolByte}
 use Rattle.effects.specs.File.{File}
 use Rattle.laws.specs.AnswerAt.{AnswerAt, accepted, refused, refusedAt}
-use Rattle.machine.specs.declared.State.{State}
-use Rattle.machine.specs.State.{state}
+use Rattle.machine.specs.State.{State, state}
 use Rattle.runs.specs.Run.{Run, runOf}
 use Rattle.sheet.specs.Demand3.{Demand3}
 use Rattle.sheet.specs.Evaluation.{evaluatedBy, evaluationOf, stateLeft}

@@ -10,8 +10,7 @@ use Rattle.laws.specs.AnswerAt.{AnswerAt}
 use Rattle.laws.specs.Choice.{choose}
 use Rattle.insn.specs.declared.Insn.{Insn}
 use Rattle.effects.specs.File.{File}
-use Rattle.machine.specs.declared.State.{State}
-use Rattle.machine.specs.State.{state}
+use Rattle.machine.specs.State.{State, state}
 use Rattle.writings.specs.Forms.{Pair, pair}
 use Rattle.runs.specs.Run.{Ending, done, stopped, Run}
 use Rattle.words.specs.Words.{recordWords}

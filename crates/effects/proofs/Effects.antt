@@ -10,8 +10,8 @@ use native.Mathlib.Nat.{add-zero, zero-add, mul-comm, add-mul-mod-self-left, add
 use lib.ListN.{length, getD, set, length-set}
 use lib.Pow.{pow-pos}
 use lib.Seq.{getD-set-other}
-use Rattle.laws.specs.Choice.{choose, either}
-use Rattle.laws.proofs.Some.{either-none}
+use Rattle.laws.specs.Choice.{either}
+use Rattle.laws.proofs.Some.{either-apart}
 use Rattle.insn.specs.declared.Width.{Width}
 use Rattle.insn.specs.Widths.{bitsOf}
 use Rattle.tables.specs.declared.lengths.Lengths.{Lengths}
@@ -23,7 +23,7 @@ use Rattle.marks.specs.Moved.{movedBy}
 use Rattle.marks.proofs.Promises.{eitherHalf}
 use Rattle.meanings.specs.declared.Numbers.{Numbers}
 use Rattle.meanings.specs.declared.Registers.{Registers}
-use Rattle.effects.specs.File.{File, Good, readD, registerBits, readR, writeR}
+use Rattle.effects.specs.File.{File, Good, readD, readR, writeR}
 use Rattle.effects.specs.Halves.{readHalf, writeHalves, halfAfter}
 use Rattle.meanings.specs.Meaning.{Act, act, double, registers, lengthsIn, numbersIn}
 use Rattle.meanings.proofs.Actions.{Sound}
@@ -129,29 +129,17 @@ quad-halves op t a b file s g =
       kept b,
     )
 
--- an operation moves a lane where it does on the doublewords, or on the high ones of quadwords
-moves-halves : (op : Operation) (r : Registers) (file : File) → Good file
-    → either (movedBy 64 op (readD file (r .n)) (readD file (r .m))) (choose (r .quad) (movedBy 64 op (readD file (r .n + 1)) (readD file (r .m + 1))) false)
-    ≡ moves (act op r) file
-moves-halves op r file g = go (r .quad)
-  where
-    go : (q : Bool)
-        → either (movedBy 64 op (readD file (r .n)) (readD file (r .m))) (choose q (movedBy 64 op (readD file (r .n + 1)) (readD file (r .m + 1))) false)
-        ≡ movedBy (registerBits q) op (readR q file (r .n)) (readR q file (r .m))
-    go true = sym (eitherHalf op (readD file (r .n)) (readD file (r .n + 1)) (readD file (r .m)) (readD file (r .m + 1)) (g .small (r .n)) (g .small (r .m)))
-    go false = either-none (movedBy 64 op (readD file (r .n)) (readD file (r .m)))
+-- the mark after an operation on doublewords, and on the high ones of quadwords after the low ones
+module _ (op : Operation) (r : Registers) (file : File) (mark : Bool) {low : Bool} (l : low ≡ either mark (movedBy 64 op (readD file (r .n)) (readD file (r .m)))) where
+  pub word-marked : r .quad ≡ false → low ≡ either mark (moves (act op r) file)
+  word-marked q = rw q l
 
--- so that these tests say whether it does
-module _ (op : Operation) (r : Registers) (file : File) (g : Good file) {low : Bool}
-    (l : low ≡ movedBy 64 op (readD file (r .n)) (readD file (r .m))) where
-  pub low-moves : low ≡ true → true ≡ moves (act op r) file
-  low-moves e = rw (sym l ∙ e) at (moves-halves op r file g)
-
-  pub high-moves : low ≡ false → r .quad ≡ true → {high : Bool} → high ≡ movedBy 64 op (readD file (r .n + 1)) (readD file (r .m + 1)) → high ≡ moves (act op r) file
-  high-moves e q h = h ∙ (rw (sym l ∙ e, q) at (moves-halves op r file g)) ∙ rw q
-
-  pub none-moves : low ≡ false → r .quad ≡ false → false ≡ moves (act op r) file
-  none-moves e q = (rw (sym l ∙ e, q) at (moves-halves op r file g)) ∙ rw q
+  pub quad-marked : {high : Bool} → high ≡ either low (movedBy 64 op (readD file (r .n + 1)) (readD file (r .m + 1))) → r .quad ≡ true → Good file
+      → high ≡ either mark (moves (act op r) file)
+  quad-marked h q g =
+      rw q (h ∙ ap (λ (b : Bool). either b (movedBy 64 op (readD file (r .n + 1)) (readD file (r .m + 1)))) l
+      ∙ either-apart mark (movedBy 64 op (readD file (r .n)) (readD file (r .m))) (movedBy 64 op (readD file (r .n + 1)) (readD file (r .m + 1)))
+      ∙ ap (either mark) (sym (eitherHalf op (readD file (r .n)) (readD file (r .n + 1)) (readD file (r .m)) (readD file (r .m + 1)) (g .small (r .n)) (g .small (r .m)))))
 
 -- a register as its two halves
 record ByHalves (x low high size : ℕ) : Type 0 where

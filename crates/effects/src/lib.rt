@@ -4,7 +4,6 @@ ghost use Prim.Native.Nat.{_<_, _≤_};
 ghost use Rattle.laws.specs.Choice.{either};
 ghost use Rattle.double_lanes.specs.Double.{lengthsOf};
 ghost use Rattle.effects.specs.Effect.{effect, moves};
-ghost use Rattle.effects.specs.File.{Good};
 ghost use Rattle.effects.specs.Halves.{readHalf, halfAfter};
 ghost use Rattle.insn.specs.Widths.{bitsOf};
 ghost use Rattle.meanings.specs.Meaning.{act, double};
@@ -13,45 +12,42 @@ ghost use Rattle.tables.specs.Lengths.{lengths};
 use double_lanes::DoubleOp;
 use double_lanes::lengths_of;
 use insn::Width;
+use marks::mark_after;
 use meanings::Numbers;
 use meanings::Registers;
 use operations::Operation;
 
-// The file after an operation on registers of one length, by doublewords: a quadword is two. The sources are read from
-// the file before it.
-pub fn perform(file: [u64; 32], op: Operation, r: Registers) -> [u64; 32]
+// What an operation on registers of one length leaves: the file, and the mark.
+pub struct Performed {
+    pub file: [u64; 32],
+    pub mark: bool,
+}
+
+// The file and the mark after an operation on registers of one length, by doublewords: a quadword is two. The sources are
+// read from the file before it.
+pub fn perform(file: [u64; 32], mark: bool, op: Operation, r: Registers) -> Performed
     requires { ⌜ Within (lengths (r .quad) (r .quad) (r .quad)) (r .d) (r .n) (r .m) ⌝ }
-    ensures { λ after. ⌜ after ≡ effect (act op r) file ⌝ }
+    ensures file { λ after. ⌜ after .file ≡ effect (act op r) file ⌝ }
+    ensures mark { λ after. ⌜ after .mark ≡ either mark (moves (act op r) file) ⌝ }
 {
     let d = r.d as usize;
     let n = r.n as usize;
     let m = r.m as usize;
+    let low = mark_after(mark, op, file[n], file[m]);
     let mut after = file;
     after[d] = operations::value(op, file[d], file[n], file[m]);
     if r.quad {
+        let high = mark_after(low, op, file[n + 1], file[m + 1]);
         after[d + 1] = operations::value(op, file[d + 1], file[n + 1], file[m + 1]);
+        return Performed {
+            file: after,
+            mark: high,
+        };
     }
-    after
-}
-
-// The mark after an operation on registers of one length, from the file before it: what it was, or yes where a lane is
-// moved to an end of its range.
-pub fn mark_after(mark: bool, file: &[u64; 32], op: Operation, r: Registers) -> bool
-    requires { ⌜ Within (lengths (r .quad) (r .quad) (r .quad)) (r .d) (r .n) (r .m) × Good (now file) ⌝ }
-    ensures { λ after. ⌜ after ≡ either mark (moves (act op r) (now (file .entry))) ⌝ }
-{
-    let n = r.n as usize;
-    let m = r.m as usize;
-    if mark {
-        return true;
+    Performed {
+        file: after,
+        mark: low,
     }
-    if marks::moved(op, file[n], file[m]) {
-        return true;
-    }
-    if r.quad {
-        return marks::moved(op, file[n + 1], file[m + 1]);
-    }
-    false
 }
 
 // The low half of a register for h = 0, the high one for 1: a doubleword of a quadword, 32 bits of a doubleword.

@@ -20,6 +20,10 @@ pub either-yes : (a : Bool) → either a true ≡ true
 either-yes true = refl
 either-yes false = refl
 
+pub either-apart : (a b c : Bool) → either (either a b) c ≡ either a (either b c)
+either-apart true b c = refl
+either-apart false b c = refl
+
 swapped : (a b c : Bool) → either a (either b c) ≡ either b (either a c)
 swapped true b c = sym (either-yes b)
 swapped false b c = refl

@@ -24,14 +24,13 @@ use Rattle.tables.specs.declared.lengths.Lengths.{Lengths}
 use Rattle.tables.specs.Lengths.{lengths}
 use Rattle.meanings.specs.declared.Numbers.{Numbers}
 use Rattle.machine.specs.declared.Outcome.the-variants.{Done, Refused as Stopped}
-use Rattle.machine.specs.declared.State.{State}
 use Rattle.effects.specs.File.{File, Good, readD}
 use Rattle.forms.specs.Forms.{groups, namedForms, formOf}
 use Rattle.meanings.specs.Meaning.{Act, act, double, registers, numbers, lengthsIn, numbersIn, Trio, trio, gathered, sameLengths, acting, doubling, wholePattern, meaningIn, meaningOf}
 use Rattle.operations.specs.Operations.{resultOf}
 use Rattle.effects.specs.Effect.{effect, moves}
 use Rattle.marks.proofs.Promises.{movedExactly}
-use Rattle.machine.specs.State.{acted}
+use Rattle.machine.specs.State.{State, acted}
 use Rattle.machine.specs.Step.{stepBy, stepInsn, stepRead, stepPair}
 use Rattle.machine.specs.Promises.{FileKept, OnlyTarget, PairMoves, MarkTurns, MarkStays, CopyAlias, LongMoveAlias, OutcomesApart}
 use Rattle.meanings.proofs.Actions.{meant}

@@ -21,7 +21,7 @@ use Rattle.forms.specs.Forms.{formOf}
 use Rattle.meanings.specs.declared.Registers.{Registers}
 use Rattle.meanings.specs.Meaning.{act, meaningOf}
 use Rattle.machine.specs.declared.Outcome.{Outcome}
-use Rattle.machine.specs.declared.State.{State}
+use Rattle.machine.specs.State.{State}
 use Rattle.machine.specs.Answers.{outcomeAnswer}
 use Rattle.effects.specs.File.{File, Good, readD, registerBits, readR}
 use Rattle.machine.specs.Step.{stepInsn, stepPair}

@@ -6,7 +6,10 @@ use Rattle.laws.specs.Choice.{either}
 use Rattle.effects.specs.File.{File}
 use Rattle.effects.specs.Effect.{effect, moves}
 use Rattle.meanings.specs.Meaning.{Act}
-use Rattle.machine.specs.declared.State.{State}
+
+pub record State : Type 0 where
+  pub file : File
+  pub mark : Bool
 
 abbrev pub state : File → Bool → State
 state file mark = record { file = file; mark = mark }

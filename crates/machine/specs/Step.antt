@@ -5,8 +5,7 @@ use Rattle.laws.specs.Answer.{Answer, accepted, refused}
 use Rattle.insn.specs.declared.Insn.{Insn}
 use Rattle.decode.specs.Reading.{reading}
 use Rattle.meanings.specs.Meaning.{Act, meaningOf}
-use Rattle.machine.specs.declared.State.{State}
-use Rattle.machine.specs.State.{acted}
+use Rattle.machine.specs.State.{State, acted}
 
 unfoldable pub stepBy : Answer Act → State → Answer State
 stepBy (accepted x) s = accepted (acted x s)

@@ -1,6 +1,7 @@
-// Whether an operation moves a lane to an end of its range.
+// The mark: whether an operation moves a lane to an end of its range.
 ghost use mathlib.Core.Path.{_≡_};
 ghost use Prim.Native.Nat.{_+_, _/_, _%_, _^_, _<_, _≤_};
+ghost use Rattle.laws.specs.Choice.{either};
 ghost use Rattle.marks.specs.Moved.{laneMoved, someMoved, lanesMoved, movedBy};
 use arithmetic::arith::cut;
 use insn::Sign;
@@ -43,10 +44,13 @@ fn lanes_moved(op: LaneOp, w: Width, n: u64, m: u64) -> bool
     }
 }
 
-// Whether an operation moves a lane of a doubleword: n and m the sources.
-pub fn moved(op: Operation, n: u64, m: u64) -> bool
-    ensures { λ r. ⌜ r ≡ movedBy 64 op n m ⌝ }
+// The mark after an operation on doublewords, n and m the sources: what it was, or yes where a lane is moved.
+pub fn mark_after(mark: bool, op: Operation, n: u64, m: u64) -> bool
+    ensures { λ r. ⌜ r ≡ either mark (movedBy 64 op n m) ⌝ }
 {
+    if mark {
+        return true;
+    }
     match op {
         Operation::Lanes(o, w) => lanes_moved(o, w, n, m),
         Operation::Bits(_) => false,

@@ -9,7 +9,7 @@ use native.Mathlib.Omega.{arith}
 use lib.ListN.{getD}
 use Rattle.laws.specs.Answer.{Answer, accepted, refused, andThen}
 use Rattle.laws.proofs.Never.{never, wrong}
-use Rattle.machine.specs.declared.State.{State}
+use Rattle.machine.specs.State.{State}
 use Rattle.machine.specs.Step.{stepPair}
 use Rattle.machine.specs.Promises.{PairMoves}
 use Rattle.machine.proofs.Promises.{markTurns, markStays}

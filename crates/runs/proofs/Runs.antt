@@ -15,8 +15,7 @@ use Rattle.insn.specs.declared.Insn.{Insn}
 use Rattle.decode.specs.Reading.{reading}
 use Rattle.meanings.specs.Meaning.{Act, meaningOf}
 use Rattle.effects.specs.File.{File}
-use Rattle.machine.specs.declared.State.{State}
-use Rattle.machine.specs.State.{acted}
+use Rattle.machine.specs.State.{State, acted}
 use Rattle.machine.specs.Step.{stepBy, stepRead, stepPair}
 use Rattle.runs.specs.Run.{done, stopped, goesOn, Run, atOnce, after, stepsBy, runPairs, runOf, machineSteps}
 use Rattle.effects.proofs.Effects.{effect-size}

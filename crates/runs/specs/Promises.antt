@@ -6,7 +6,7 @@ use mathlib.Core.Path.{_≡_}
 use Prim.Native.Nat.{ℕ, _+_, _*_, _<_}
 use lib.ListN.{getD, drop}
 use Rattle.laws.specs.Answer.{accepted}
-use Rattle.machine.specs.declared.State.{State}
+use Rattle.machine.specs.State.{State}
 use Rattle.machine.specs.Promises.{PairMoves}
 use Rattle.runs.specs.declared.Ran.{Ran}
 use Rattle.runs.specs.Answers.{ranOf}

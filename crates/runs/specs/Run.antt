@@ -7,7 +7,7 @@ use lib.Dec.{eqb, ltb}
 use lib.ListN.{length, drop}
 use Rattle.laws.specs.Answer.{Answer, accepted, refused, andThen}
 use Rattle.laws.specs.Choice.{choose}
-use Rattle.machine.specs.declared.State.{State}
+use Rattle.machine.specs.State.{State}
 use Rattle.machine.specs.Step.{stepPair}
 
 -- how a run ends: done, or stopped by the refusal of this number

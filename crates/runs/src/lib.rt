@@ -8,7 +8,6 @@ ghost use Rattle.runs.specs.Answers.{endingOf, ranOf};
 ghost use Rattle.runs.specs.Run.{atOnce, after, runPairs, runOf, machineSteps};
 use insn::Refusal;
 use machine::Outcome;
-use machine::State;
 use machine::step;
 
 // What a run answers: how it ended, and the pairs executed.
@@ -17,19 +16,21 @@ pub struct Ran {
     pub executed: u64,
 }
 
-// Where the pairs' loop halted: its answer, and the state that it leaves.
+// Where the pairs' loop halted: its answer, and the file and the mark that it leaves.
 struct Halt {
     ran: Ran,
-    state: State,
+    file: [u64; 32],
+    mark: bool,
 }
 
 // The halt with an outcome, after so many pairs.
-fn halted(outcome: Outcome, executed: u64, s: State) -> Halt
-    ensures { λ r. ⌜ ranOf (r .ran) (r .state) ≡ after executed (atOnce (endingOf outcome) s) ⌝ }
+fn halted(outcome: Outcome, executed: u64, file: [u64; 32], mark: bool) -> Halt
+    ensures { λ r. ⌜ ranOf (r .ran) (state (r .file) (r .mark)) ≡ after executed (atOnce (endingOf outcome) (state file mark)) ⌝ }
 {
     Halt {
         ran: Ran { outcome, executed },
-        state: s,
+        file,
+        mark,
     }
 }
 
@@ -60,30 +61,32 @@ fn store(lent: &mut [u64], file: [u64; 32])
 }
 
 // The pairs from a start on, in turn, while the budget lasts.
-fn go(code: &[u16], start: usize, before: State, budget: u64) -> Halt
+fn go(code: &[u16], start: usize, file: [u64; 32], budget: u64, mark: bool) -> Halt
     requires { ⌜ (length (now code) % 2 ≡ 0) × (start ≤ length (now code) / 2) ⌝ }
-    ensures { λ r. ⌜ ranOf (r .ran) (r .state) ≡ runPairs (drop (2 * start) (now (code .entry))) budget before ⌝ }
+    ensures { λ r. ⌜ ranOf (r .ran) (state (r .file) (r .mark)) ≡ runPairs (drop (2 * start) (now (code .entry))) budget (state file mark) ⌝ }
 {
     let pairs = code.len() / 2;
     let mut at = start;
     let mut left = budget;
-    let mut s = before;
+    let mut f = file;
+    let mut m = mark;
     while at < pairs {
         if left == 0 {
-            return halted(Outcome::Refused(Refusal::BudgetSpent), budget - left, s);
+            return halted(Outcome::Refused(Refusal::BudgetSpent), budget - left, f, m);
         }
-        let stepped = step(s, code[2 * at], code[2 * at + 1]);
+        let stepped = step(f, m, code[2 * at], code[2 * at + 1]);
         let outcome = stepped.outcome;
         match outcome {
             Outcome::Done => {
-                s = stepped.state;
+                f = stepped.file;
+                m = stepped.mark;
             }
-            Outcome::Refused(r) => return halted(Outcome::Refused(r), budget - left, s),
+            Outcome::Refused(r) => return halted(Outcome::Refused(r), budget - left, f, m),
         }
         at += 1;
         left -= 1;
     }
-    halted(Outcome::Done, budget - left, s)
+    halted(Outcome::Done, budget - left, f, m)
 }
 
 // The run from a start counted in pairs, while the budget of steps lasts. It leaves file and mark at the last executed pair.
@@ -109,15 +112,10 @@ pub fn run(code: &[u16], start: u64, file: &mut [u64], budget: u64, mark: &mut b
             executed: 0,
         };
     }
-    let numbers = load(file);
-    let before = State {
-        file: numbers,
-        mark: *mark,
-    };
-    let end = go(code, start as usize, before, budget);
-    let after = end.state;
-    let left = after.file;
-    store(file, left);
-    *mark = after.mark;
+    let before = load(file);
+    let end = go(code, start as usize, before, budget, *mark);
+    let after = end.file;
+    store(file, after);
+    *mark = end.mark;
     end.ran
 }

@@ -22,7 +22,7 @@ use Rattle.trips.proofs.Canonical.{spelt, as-spelt, as-vmov}
 use Rattle.trips.proofs.Promises.{writtenThenRead}
 use Rattle.trips.proofs.Registers.{same-register}
 use Rattle.laws.proofs.Tests.{both-true, same-text}
-use Rattle.machine.specs.declared.State.{State}
+use Rattle.machine.specs.State.{State}
 use Rattle.meanings.specs.Meaning.{meaningOf}
 use Rattle.machine.specs.Step.{stepInsn, stepRead, stepPair}
 use Rattle.machine.proofs.Promises.{copyAlias}

@@ -9,8 +9,7 @@ use Rattle.insn.specs.declared.Insn.{Insn}
 use Rattle.effects.specs.File.{File, Good}
 use Rattle.meanings.specs.Meaning.{Act}
 use Rattle.meanings.proofs.Actions.{Sound}
-use Rattle.machine.specs.declared.State.{State}
-use Rattle.machine.specs.State.{state}
+use Rattle.machine.specs.State.{State, state}
 use Rattle.runs.specs.Run.{runBy, stepsBy, runPairs, machineSteps}
 use Rattle.effects.specs.Effect.{effect}
 use Rattle.effects.proofs.Effects.{effect-good}

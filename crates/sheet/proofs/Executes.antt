@@ -32,8 +32,7 @@ use Rattle.operations.specs.declared.Operation.the-variants.{Bits as Bitwise, C
 use Rattle.forms.specs.declared.Direction.{Direction}
 use Rattle.forms.specs.declared.Form.{Form}
 use Rattle.forms.specs.declared.Form.the-variants as form
-use Rattle.machine.specs.declared.State.{State}
-use Rattle.machine.specs.State.{state, acted}
+use Rattle.machine.specs.State.{State, state, acted}
 use Rattle.forms.specs.Forms.{formOf}
 use Rattle.meanings.specs.Meaning.{Act, act, registers, on, wholePattern, repeated, shifting, countOf, meaningIn, meaningOf}
 use Rattle.meanings.proofs.Actions.{on-alike}

@@ -9,8 +9,7 @@ use lib.ListN.{length, getD, take}
 use Rattle.laws.specs.Answer as stepping
 use Rattle.laws.specs.AnswerAt.{AnswerAt, accepted, refused, refusedAt}
 use Rattle.laws.proofs.Never.{never}
-use Rattle.machine.specs.declared.State.{State}
-use Rattle.machine.specs.State.{state}
+use Rattle.machine.specs.State.{State, state}
 use Rattle.runs.specs.Run.{Run, done, runPairs, runOf, machineSteps}
 use Rattle.runs.proofs.Promises.{runKept}
 use Rattle.runs.proofs.Runs.{all-run, each-run, runs-from-start}

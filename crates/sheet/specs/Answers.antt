@@ -3,7 +3,7 @@
 use Rattle.laws.specs.AnswerAt.{AnswerAt, accepted, refused, refusedAt}
 use Rattle.insn.specs.Refusals.{number}
 use Rattle.runs.specs.Answers.{ranOf}
-use Rattle.machine.specs.declared.State.{State}
+use Rattle.machine.specs.State.{State}
 use Rattle.runs.specs.Run.{Run}
 use Rattle.sheet.specs.declared.Evaluation.{Evaluation}
 use Rattle.sheet.specs.declared.Evaluation.the-variants.{Ran, Refused, RefusedAt}

@@ -7,7 +7,7 @@ use Prim.Native.Nat.{ℕ, _*_, _≤_}
 use lib.ListN.{length, take, drop}
 use Rattle.laws.specs.Answer as stepping
 use Rattle.laws.specs.AnswerAt.{AnswerAt, accepted}
-use Rattle.machine.specs.declared.State.{State}
+use Rattle.machine.specs.State.{State}
 use Rattle.runs.specs.Run.{Run, done, machineSteps}
 use Rattle.steps.specs.declared.Step.{Step}
 use Rattle.steps.specs.Meaning.{rowsOf, meaning}

@@ -4,7 +4,7 @@ use mathlib.Core.List.{List}
 use Prim.Native.Nat.{ℕ, _*_}
 use lib.ListN.{length, take}
 use Rattle.laws.specs.AnswerAt.{AnswerAt, accepted, refused, refusedAt}
-use Rattle.machine.specs.declared.State.{State}
+use Rattle.machine.specs.State.{State}
 use Rattle.runs.specs.Run.{Run, runOf}
 use Rattle.translator.specs.Translation.{translationOf, writtenOf}
 

@@ -4,7 +4,7 @@ use mathlib.Core.List.{List}
 use mathlib.Core.Path.{_≡_}
 use Prim.Native.Nat.{ℕ, _^_, _<_}
 use lib.ListN.{getD}
-use Rattle.machine.specs.declared.State.{State}
+use Rattle.machine.specs.State.{State}
 use Rattle.translator.specs.Translation.{writtenOf}
 use Rattle.sheet.specs.declared.Evaluation.{Evaluation}
 use Rattle.sheet.specs.Answers.{evaluationAnswer}

@@ -1,4 +1,4 @@
-// Steps a list of pairs on one state, round after round, for tools/compare to time.
+// Steps a list of pairs on one file and mark, round after round, for tools/compare to time.
 // Standard input has D0 to D31 at the start and then the list, which goes to its end: 32 lines of a doubleword and at
 // most 255 of two halfwords, in hexadecimal. The gate's has every operation at every width once: 80 with registers of one
 // length, then the 34 saturating and halving ones, then 63 with registers of different lengths. The argument says how
@@ -6,12 +6,12 @@
 use libc::STDIN_FILENO;
 use libc::STDOUT_FILENO;
 use machine::Outcome;
-use machine::State;
 use replay::field;
 
 struct Tally {
     done: u64,
-    state: State,
+    file: [u64; 32],
+    mark: bool,
 }
 
 // The number that the digits make, below a hundred million; none make 0.
@@ -61,24 +61,27 @@ fn code_of(text: &[u8; 3094]) -> [u16; 510] {
 // Every pair of the list once.
 fn round(code: &[u16; 510], pairs: u8, before: Tally) -> Tally {
     let mut done = before.done;
-    let mut s = before.state;
+    let mut file = before.file;
+    let mut mark = before.mark;
     let mut i: usize = 0;
     while i < pairs as usize {
-        let stepped = machine::step(s, code[2 * i], code[2 * i + 1]);
+        let stepped = machine::step(file, mark, code[2 * i], code[2 * i + 1]);
         let outcome = stepped.outcome;
-        s = stepped.state;
+        file = stepped.file;
+        mark = stepped.mark;
         if let Outcome::Done = outcome {
             done = std::num::wrapping_add_u64(done, 1);
         }
         i += 1;
     }
-    Tally { done, state: s }
+    Tally { done, file, mark }
 }
 
 fn rounds(n: u64, code: &[u16; 510], pairs: u8, file: [u64; 32]) -> Tally {
     let mut tally = Tally {
         done: 0,
-        state: State { file, mark: false },
+        file,
+        mark: false,
     };
     let mut i: u64 = 0;
     while i < n {
@@ -105,12 +108,11 @@ fn main() {
     let pairs = pairs_in(io::read_full(STDIN_FILENO, &mut text));
     let code = code_of(&text);
     let tally = rounds(decimal(&digits), &code, pairs, file_of(&text));
-    let last = tally.state;
-    let file = last.file;
+    let file = tally.file;
     io::print_decimal(STDOUT_FILENO, tally.done);
     io::write_all(STDOUT_FILENO, b" pairs, registers ");
     io::print_decimal(STDOUT_FILENO, sum(file));
     io::write_all(STDOUT_FILENO, b", mark ");
-    io::print_decimal(STDOUT_FILENO, last.mark as u64);
+    io::print_decimal(STDOUT_FILENO, tally.mark as u64);
     io::write_all(STDOUT_FILENO, b"\n");
 }

@@ -2,7 +2,6 @@
 // Each line has 1040 bytes: hw1 hw2, the mark and D0 to D31 before, the mark and D0 to D31 after, in hexadecimal.
 use libc::STDIN_FILENO;
 use machine::Outcome;
-use machine::State;
 use replay::field;
 use replay::file_at;
 use replay::put_count;
@@ -28,14 +27,11 @@ fn turns(line: &[u8; 1040]) -> bool {
 fn agrees(line: &[u8; 1040]) -> bool {
     let hw1 = (field(line, 0, 4) % 65536) as u16;
     let hw2 = (field(line, 5, 4) % 65536) as u16;
-    let file = file_at(line, 12);
-    let mark = mark_at(line, 10);
-    let stepped = machine::step(State { file, mark }, hw1, hw2);
+    let stepped = machine::step(file_at(line, 12), mark_at(line, 10), hw1, hw2);
     let outcome = stepped.outcome;
-    let state = stepped.state;
-    let left = state.file;
+    let left = stepped.file;
     match outcome {
-        Outcome::Done => same_file(left, file_at(line, 527)) && state.mark == mark_at(line, 525),
+        Outcome::Done => same_file(left, file_at(line, 527)) && stepped.mark == mark_at(line, 525),
         Outcome::Refused(_) => false,
     }
 }

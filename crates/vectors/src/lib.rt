@@ -3,7 +3,6 @@ use insn::Insn;
 use insn::Mark;
 use insn::Operand;
 use machine::Outcome;
-use machine::State;
 use replay::field;
 use replay::same_file;
 
@@ -135,10 +134,9 @@ fn start_of(line: &[u8; 153]) -> [u64; 32] {
 
 // Whether a step on a file, with a mark, has the refusal's number, 0 for done, and leaves the file `after` with a mark.
 fn steps(file: [u64; 32], mark: bool, i: Insn, number: u8, after: [u64; 32], marked: bool) -> bool {
-    let s = machine::step_insn(State { file, mark }, i);
+    let s = machine::step_insn(file, mark, i);
     let outcome = s.outcome;
-    let state = s.state;
-    let left = state.file;
+    let left = s.file;
     let got = match outcome {
         Outcome::Done => 0,
         Outcome::Refused(f) => insn::refusal_number(f),
@@ -146,7 +144,7 @@ fn steps(file: [u64; 32], mark: bool, i: Insn, number: u8, after: [u64; 32], mar
     if got != number {
         return false;
     }
-    if state.mark != marked {
+    if s.mark != marked {
         return false;
     }
     same_file(left, after)

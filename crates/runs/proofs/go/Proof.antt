@@ -8,6 +8,7 @@ use borrow.Author.Needs.{needs}
 use Rattle.laws.specs.Answer.{accepted, refused}
 use Rattle.insn.specs.Refusals.{number}
 use Rattle.runs.specs.Run.{after, runPairs}
+use Rattle.machine.specs.State.{state}
 use Rattle.machine.specs.Step.{stepPair}
 use Rattle.runs.proofs.AnyRuns.{after-none, halts, ended, spent, stops, turned}
 use Rattle.runs.proofs.go.Statement.{statement}
@@ -15,17 +16,17 @@ use Rattle.runs.proofs.go.Tie as tie
 
 -- what is left of the run, after the pairs executed so far, is the whole run
 abbrev Inv-loop : tie.InvT-loop
-Inv-loop code start budget pairs at₀ left₀ s₀ at left s =
-    (at ≤ pairs) × (left ≤ budget) × (after (budget - left) (runPairs (drop (2 * at) code) left s) ≡ runPairs (drop (2 * start) code) budget s₀)
+Inv-loop code start budget mark pairs at₀ left₀ f₀ m₀ at left f m =
+    (at ≤ pairs) × (left ≤ budget) × (after (budget - left) (runPairs (drop (2 * at) code) left (state f m)) ≡ runPairs (drop (2 * start) code) budget (state f₀ m₀))
 
 abbrev μ-loop : tie.MeasureT-loop
-μ-loop code start budget pairs at₀ left₀ s₀ at left s = left
+μ-loop code start budget mark pairs at₀ left₀ f₀ m₀ at left f m = left
 
 loop-holds : tie.Need-loop-holds Inv-loop μ-loop
 loop-holds c =
     let a = c .before .args in
     let e : a .budget - a .budget ≡ 0 = omega arith in
-    (search needs, omega arith, rw e (after-none (runPairs (drop (2 * a .start) (a .code .now)) (a .budget) (a .before))))
+    (search needs, omega arith, rw e (after-none (runPairs (drop (2 * a .start) (a .code .now)) (a .budget) (state (a .file) (a .mark)))))
 
 returns : tie.Need-returns Inv-loop μ-loop
 returns c =
@@ -33,7 +34,7 @@ returns c =
     let l = b .loop in
     let a = b .before .before .args in
     halts _ (a .budget - l .left) (c .halted .ensures) (omega arith)
-    (spent stepPair (a .code .now) (l .at) (l .s) (l .left) (omega arith) (omega arith)) (l .inv .2)
+    (spent stepPair (a .code .now) (l .at) (state (l .f) (l .m)) (l .left) (omega arith) (omega arith)) (l .inv .2)
 
 returns-2 : tie.Need-returns-2 Inv-loop μ-loop
 returns-2 c =
@@ -42,10 +43,10 @@ returns-2 c =
     let l = b .before .loop in
     let a = b .before .before .before .args in
     let o = c .before .before .outcome .given in
-    let e : stepPair (getD (a .code .now) (2 * l .at) 0) (getD (a .code .now) (2 * l .at + 1) 0) (l .s) ≡ refused (number (o .0 .0)) =
+    let e : stepPair (getD (a .code .now) (2 * l .at) 0) (getD (a .code .now) (2 * l .at + 1) 0) (state (l .f) (l .m)) ≡ refused (number (o .0 .0)) =
     sym (s .step .ensures .0) ∙ rw (o .1) in
     halts _ (a .budget - l .left) (c .halted2 .ensures) (omega arith)
-    (stops stepPair (a .code .now) (l .at) (l .s) (l .left) (number (o .0 .0)) (omega arith) (omega arith) e) (l .inv .2)
+    (stops stepPair (a .code .now) (l .at) (state (l .f) (l .m)) (l .left) (number (o .0 .0)) (omega arith) (omega arith) e) (l .inv .2)
 
 loop-again : tie.Need-loop-again Inv-loop μ-loop
 loop-again c =
@@ -53,11 +54,11 @@ loop-again c =
     let b = s .before .before .before .before in
     let l = b .before .loop in
     let a = b .before .before .before .args in
-    let e : stepPair (getD (a .code .now) (2 * l .at) 0) (getD (a .code .now) (2 * l .at + 1) 0) (l .s) ≡ accepted (s .step .result .state) =
+    let e : stepPair (getD (a .code .now) (2 * l .at) 0) (getD (a .code .now) (2 * l .at + 1) 0) (state (l .f) (l .m)) ≡ accepted (state (s .step .result .file) (s .step .result .mark)) =
     sym (s .step .ensures .0) ∙ rw (c .before .enum-told .given .1) in (
       omega arith,
       omega arith,
-      turned stepPair (a .code .now) (l .at) (l .s) (l .left) (a .budget) (s .step .result .state) (omega arith) (omega arith) (omega arith) e
+      turned stepPair (a .code .now) (l .at) (state (l .f) (l .m)) (l .left) (a .budget) (state (s .step .result .file) (s .step .result .mark)) (omega arith) (omega arith) (omega arith) e
           ∙ l .inv .2,
     )
 
@@ -67,7 +68,7 @@ returns-3 c =
     let l = b .loop in
     let a = b .before .before .args in
     halts _ (a .budget - l .left) (c .halted3 .ensures) (omega arith)
-    (ended stepPair (a .code .now) (l .at) (l .s) (l .left) (omega arith) (omega arith)) (l .inv .2)
+    (ended stepPair (a .code .now) (l .at) (state (l .f) (l .m)) (l .left) (omega arith) (omega arith)) (l .inv .2)
 
 pub go-spec : {M : Type 1} → statement M
 go-spec =

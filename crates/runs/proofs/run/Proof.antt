@@ -37,12 +37,12 @@ returns-3 c =
 returns-4 : tie.Need-returns-4
 returns-4 c =
     let s = c .before .before .before in
-    let g = s .before .before .before .before in
+    let g = s .before .before .before in
     let a = g .before .before .before .before .before .before .before .before .args in
     let rest = drop (2 * a .start) (a .code .now) in
     let lent = state (a .file .now) (a .mark .now) in
-    let k : s .store .last .0 ≡ g .go .result .state .file = s .store .ensures in
-    let e : ranOf (g .go .result .ran) (state (s .store .last .0) (g .go .result .state .mark)) ≡ runPairs rest (a .budget) lent =
+    let k : s .store .last .0 ≡ g .go .result .file = s .store .ensures in
+    let e : ranOf (g .go .result .ran) (state (s .store .last .0) (g .go .result .mark)) ≡ runPairs rest (a .budget) lent =
     rw k (g .go .ensures ∙ ap (λ (f : File). runPairs rest (a .budget) (state f (a .mark .now))) (g .before .load .ensures)) in (
       e ∙ sym (runs (a .code .now) (a .start) lent (a .budget) (omega arith) (omega arith) (omega arith)),
       subst (λ (r : Run). machineSteps (r .executed) rest lent ≡ accepted (r .state)) (sym e) (counted stepPair rest (a .budget) lent),

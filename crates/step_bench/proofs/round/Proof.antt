@@ -6,10 +6,10 @@ use Rattle.step_bench.proofs.round.Statement.{statement}
 use Rattle.step_bench.proofs.round.Tie as tie
 
 abbrev Inv-loop : tie.InvT-loop
-Inv-loop code pairs done₀ file₀ i₀ done file i = i ≤ pairs
+Inv-loop code pairs done₀ file₀ mark₀ i₀ done file mark i = i ≤ pairs
 
 abbrev μ-loop : tie.MeasureT-loop
-μ-loop code pairs done₀ file₀ i₀ done file i = pairs - i
+μ-loop code pairs done₀ file₀ mark₀ i₀ done file mark i = pairs - i
 
 pub round-spec : {M : Type 1} → statement M
 round-spec =
