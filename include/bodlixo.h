@@ -46,9 +46,9 @@ uint32_t bodlixo_write(uint32_t edition, const uint64_t record[10], uint16_t pai
 /* Runs the pairs of `len` halfwords, from the pair `start` on, at most `budget` of them, on a file of 32 doublewords
    and a mark, the manual's cumulative saturation bit: 0 is no, and any other `*mark` that comes in is yes; 0 or 1 comes
    out. A pair turns it yes exactly when it moves a lane of a vqadd or vqsub to an end of the lane's range, and none turns
-   it back. `*executed` is always set: the pairs executed, whose effect file and mark have. After 0 or 15 a call from
-   start + *executed, with that file and mark, goes on: the two end as one call with both budgets added does, and their
-   counts add up to its. */
+   it back. `*executed` is always set: the pairs executed, whose effect file and mark have. After 0 or 15 a call with the
+   same halfwords from start + *executed, with that file and mark, goes on: the two end as one call with both budgets
+   added does, where that sum is below 2^64, and their counts add up to its. */
 uint32_t bodlixo_run(const uint16_t *code, size_t len, uint64_t start, uint64_t *file, size_t file_len, uint64_t budget,
                      uint8_t *mark, uint64_t *executed);
 

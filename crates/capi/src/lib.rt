@@ -58,8 +58,8 @@ pub extern "C" fn bodlixo_write(edition: u32, words: &[u64; 10], pair: &mut [u16
     }
 }
 
-// Runs the pairs of the code from a start on: 0 when done, or the refusal's number; in any case the pairs executed, and the
-// file and the mark that they left.
+// Runs the pairs of the code from a start on: 0 when done, or the refusal's number; in any case the pairs executed, and
+// the file and the mark that they left.
 #[no_mangle]
 pub extern "C" fn bodlixo_run(
     code: &[u16],
@@ -110,7 +110,7 @@ pub extern "C" fn bodlixo_translate(sheet: &[u8], out: &mut [u16], at: &mut u64)
 }
 
 // Translates a sheet into the output and runs the pairs on the file: 0 when done; or the translation's refusal, with the
-// file as it was and 0 executed; or the run's. `at` is as in `bodlixo_translate`. The mark stays yes or no.
+// file as it was and 0 executed; or the run's. `at` is as in `bodlixo_translate`. The mark stays as it came, as 0 or 1.
 #[no_mangle]
 pub extern "C" fn bodlixo_evaluate(
     sheet: &[u8],

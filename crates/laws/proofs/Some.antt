@@ -16,7 +16,7 @@ pub either-none : (a : Bool) → either a false ≡ a
 either-none true = refl
 either-none false = refl
 
-pub either-yes : (a : Bool) → either a true ≡ true
+either-yes : (a : Bool) → either a true ≡ true
 either-yes true = refl
 either-yes false = refl
 

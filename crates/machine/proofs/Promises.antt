@@ -73,12 +73,12 @@ unfolding acted
 markStays hw1 hw2 s next e marked = pair-taken hw1 hw2 s next (λ (t : State). t .mark ≡ true) (λ i x r m. rw marked) e
 
 -- an act that moves a lane is one on registers of one length
-moved-lane : (hw1 hw2 : ℕ) (file : File) (i : Insn) (x : Act) → reading hw1 hw2 0 ≡ accepted i → meaningOf i ≡ accepted x → moves x file ≡ true → PairMoves hw1 hw2 file
-moved-lane hw1 hw2 file i (act op r) read means e = record { insn = i; op = op; registers = r; read = read; meant = means; lane = movedExactly _ op _ _ .0 e }
-moved-lane hw1 hw2 file i (double op w r) read means e = wrong e
+lane-of : (hw1 hw2 : ℕ) (file : File) (i : Insn) (x : Act) → reading hw1 hw2 0 ≡ accepted i → meaningOf i ≡ accepted x → moves x file ≡ true → PairMoves hw1 hw2 file
+lane-of hw1 hw2 file i (act op r) read means e = record { insn = i; op = op; registers = r; read = read; meant = means; lane = movedExactly _ op _ _ .0 e }
+lane-of hw1 hw2 file i (double op w r) read means e = wrong e
 
-lane-moved : (hw1 hw2 : ℕ) (file : File) (i : Insn) (x : Act) → reading hw1 hw2 0 ≡ accepted i → meaningOf i ≡ accepted x → PairMoves hw1 hw2 file → moves x file ≡ true
-lane-moved hw1 hw2 file i x read means p =
+by-lane : (hw1 hw2 : ℕ) (file : File) (i : Insn) (x : Act) → reading hw1 hw2 0 ≡ accepted i → meaningOf i ≡ accepted x → PairMoves hw1 hw2 file → moves x file ≡ true
+by-lane hw1 hw2 file i x read means p =
     let same : i ≡ p .insn = cc (sym read ∙ p .read) in
     let act-is : x ≡ act (p .op) (p .registers) = cc (sym means ∙ ap meaningOf same ∙ p .meant) in
     ap (λ (y : Act). moves y file) act-is ∙ movedExactly _ (p .op) _ _ .1 (p .lane)
@@ -87,7 +87,7 @@ pub markTurns : MarkTurns
 unfolding acted
 markTurns hw1 hw2 s next e unmarked =
     pair-taken hw1 hw2 s next (λ (t : State). (t .mark ≡ true → PairMoves hw1 hw2 (s .file)) × (PairMoves hw1 hw2 (s .file) → t .mark ≡ true))
-    (λ i x r m. rw unmarked (moved-lane hw1 hw2 (s .file) i x r m, lane-moved hw1 hw2 (s .file) i x r m)) e
+    (λ i x r m. rw unmarked (lane-of hw1 hw2 (s .file) i x r m, by-lane hw1 hw2 (s .file) i x r m)) e
 
 -- what vorr does with equal sources, a copy does
 copied : (s : State) (quad : Bool) (d n m : ℕ) → n ≡ m

@@ -14,7 +14,7 @@ use Rattle.names.specs.Names.{nameOf}
 use Rattle.fields.specs.Registers.{bits, vecBits}
 use Rattle.decode.specs.Reading.{reading}
 use Rattle.operations.specs.declared.Operation.{Operation}
-use Rattle.marks.specs.Promises.{LaneMoved}
+use Rattle.marks.specs.Promises.{MovedLane}
 use Rattle.forms.specs.declared.Direction.the-variants.{Long}
 use Rattle.forms.specs.declared.Form.the-variants.{Shift, Extend}
 use Rattle.forms.specs.Forms.{formOf}
@@ -43,7 +43,7 @@ pub record PairMoves (hw1 hw2 : ℕ) (file : File) : Type 0 where
   pub registers : Registers
   pub read : reading hw1 hw2 0 ≡ accepted insn
   pub meant : meaningOf insn ≡ accepted (act op registers)
-  pub lane : LaneMoved (registerBits (registers .quad)) op (readR (registers .quad) file (registers .n)) (readR (registers .quad) file (registers .m))
+  pub lane : MovedLane (registerBits (registers .quad)) op (readR (registers .quad) file (registers .n)) (readR (registers .quad) file (registers .m))
 
 -- a step turns the mark yes exactly when its pair moves a lane, and never turns it back
 abbrev pub MarkTurns : Type 0

@@ -1,5 +1,5 @@
 -- The machine's state: the register file, and the mark, which is the manual's cumulative saturation bit, FPSCR.QC.
--- From ARM DDI 0406C, A2.5 and A8.8, VQADD and VQSUB; and document 02, F-8.
+-- From ARM DDI 0406C, A8.8, VQADD and VQSUB; and document 02, F-8.
 -- Assumes nothing.
 use mathlib.Core.Bool.{Bool}
 use Rattle.laws.specs.Choice.{either}

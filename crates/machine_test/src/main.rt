@@ -1,8 +1,8 @@
 // Runs worked vectors through the machine and prints how many passed. A line of the input is a sign, a vector, and then
 // how the result was worked; after the sign # it is text. After a space the vector has a mnemonic, a shape, a number, the
 // old target, the first source, the second source and the result, and is run on doublewords and on both halves of
-// quadwords. After : + and ! it has a mnemonic, the operands, a number, and the quadwords Q0, Q1, Q2 and then Q0 afterwards;
-// after + the mark turns, and those after ! are refused.
+// quadwords. After : + and ! it has a mnemonic, the operands, a number, and the quadwords Q0, Q1, Q2 and then Q0
+// afterwards; after + the mark turns, and those after ! are refused.
 use libc::STDIN_FILENO;
 use replay::put;
 use replay::put_count;

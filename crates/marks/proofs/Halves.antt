@@ -1,6 +1,6 @@
 -- A lane is moved in a quadword where one is in its low doubleword or in its high one.
 -- Assumes nothing.
-use mathlib.Core.Path.{_≡_, refl, subst, _∙_}
+use mathlib.Core.Path.{_≡_, subst, _∙_}
 use mathlib.Core.Bool.{Bool}
 use Prim.Native.Nat.{ℕ, _+_, _-_, _*_, _^_, _<_}
 use Rattle.laws.specs.Choice.{either}

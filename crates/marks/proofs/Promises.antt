@@ -20,12 +20,12 @@ use Rattle.lanes.specs.Promises.{laneAt}
 use Rattle.operations.specs.declared.Operation.{Operation}
 use Rattle.operations.specs.declared.Operation.the-variants.{Lanes}
 use Rattle.marks.specs.Moved.{laneMoved, someMoved, movedBy}
-use Rattle.marks.specs.Promises.{exactAt, LaneMoved, MovedExactly, EitherHalf, WorkedMoves}
+use Rattle.marks.specs.Promises.{exactAt, MovedLane, MovedExactly, EitherHalf, WorkedMoves}
 use Rattle.marks.proofs.Halves.{some-halves}
 use Rattle.marks.proofs.Quiet.{by-kind}
 
 -- a saturating operation, from the test to the lane
-some-lane : (size : ℕ) (op : SaturatingOp) (s : Sign) (w : Width) (n m : ℕ) → someMoved size op s w n m ≡ true → LaneMoved size (Lanes (Saturating op s) w) n m
+some-lane : (size : ℕ) (op : SaturatingOp) (s : Sign) (w : Width) (n m : ℕ) → someMoved size op s w n m ≡ true → MovedLane size (Lanes (Saturating op s) w) n m
 unfolding someMoved
 some-lane size op s w n m e =
     let b = bitsOf w in
@@ -33,13 +33,13 @@ some-lane size op s w n m e =
     record { name = op; sign = s; width = w; lane = f .at; is = refl; there = f .below; moved = outsideMoved s b (exactAt op s w (f .at) n m) .0 (f .passes) }
 
 -- no other operation says that it moves one
-from-test : (size : ℕ) (op : Operation) (n m : ℕ) → movedBy size op n m ≡ true → LaneMoved size op n m
+from-test : (size : ℕ) (op : Operation) (n m : ℕ) → movedBy size op n m ≡ true → MovedLane size op n m
 from-test size op n m =
-    by-kind (λ (x : Operation). movedBy size x n m ≡ true → LaneMoved size x n m) (λ o s w. some-lane size o s w n m)
+    by-kind (λ (x : Operation). movedBy size x n m ≡ true → MovedLane size x n m) (λ o s w. some-lane size o s w n m)
     (λ x quiet e. wrong (sym (quiet size n m) ∙ e)) op
 
 -- from the lane to the test
-to-test : (size : ℕ) (op : Operation) (n m : ℕ) → LaneMoved size op n m → movedBy size op n m ≡ true
+to-test : (size : ℕ) (op : Operation) (n m : ℕ) → MovedLane size op n m → movedBy size op n m ≡ true
 unfolding someMoved
 to-test size op n m r = ap (λ (o : Operation). movedBy size o n m) (r .is) ∙ some-there test (size / b) (record { at = r .lane; below = r .there; passes = by (test (r .lane)) refl })
   where

@@ -1,5 +1,5 @@
 -- Whether an operation moves a lane to an end of its range: the second result of the manual's SatQ, at any lane.
--- From ARM DDI 0406C, A8.8, VQADD and VQSUB, which alone do so; and document 02, F-8.
+-- From ARM DDI 0406C, A8.8, VQADD and VQSUB, of the machine's names the only ones that do so; and document 02, F-8.
 -- n and m are the sources; `size` is 64 for a doubleword and 128 for a quadword.
 -- Assumes nothing.
 use mathlib.Core.Bool.{Bool, false}

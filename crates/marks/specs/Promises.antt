@@ -26,7 +26,7 @@ abbrev pub exactAt : SaturatingOp → Sign → Width → ℕ → ℕ → ℕ →
 exactAt op s w i n m = let b = bitsOf w in exactSaturating op (readAs s b (laneAt b i n)) (readAs s b (laneAt b i m))
 
 -- an operation is a saturating one, and at a lane below `size` bits the exact result is another number after it was moved
-pub record LaneMoved (size : ℕ) (op : Operation) (n m : ℕ) : Type 0 where
+pub record MovedLane (size : ℕ) (op : Operation) (n m : ℕ) : Type 0 where
   pub name : SaturatingOp
   pub sign : Sign
   pub width : Width
@@ -39,7 +39,7 @@ pub record LaneMoved (size : ℕ) (op : Operation) (n m : ℕ) : Type 0 where
 abbrev pub MovedExactly : Type 0
 MovedExactly =
     (size : ℕ) (op : Operation) (n m : ℕ)
-    → (movedBy size op n m ≡ true → LaneMoved size op n m) × (LaneMoved size op n m → movedBy size op n m ≡ true)
+    → (movedBy size op n m ≡ true → MovedLane size op n m) × (MovedLane size op n m → movedBy size op n m ≡ true)
 
 -- on quadwords it moves a lane where it does on their low doublewords or on their high ones
 abbrev pub EitherHalf : Type 0

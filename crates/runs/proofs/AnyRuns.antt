@@ -11,7 +11,7 @@ use lib.Seq.{drop-cons}
 use borrow.Author.Tests.{eqb-true}
 use Rattle.laws.specs.Answer.{Answer, accepted, refused, andThen}
 use Rattle.laws.proofs.Never.{never}
-use Rattle.runs.specs.Run.{done, stopped, goesOn, RunOn, atOnce, after, onward, runBy, stepsBy}
+use Rattle.runs.specs.Run.{done, stopped, mayGoOn, RunOn, atOnce, after, onward, runBy, stepsBy}
 
 -- the pair at place i of the code, and the end of the code
 module _ (code : List ℕ) (i : ℕ) where
@@ -136,7 +136,7 @@ module _ {S : Type 0} (step : ℕ → ℕ → S → Answer S) where
 
   -- a run that was done, or that a spent budget stopped, goes on with more
   abbrev Goes : List ℕ → ℕ → RunOn S → RunOn S → Type 0
-  Goes code c r whole = goesOn (r .ending) ≡ true → whole ≡ after (r .executed) (runBy step (drop (2 * r .executed) code) c (r .state))
+  Goes code c r whole = mayGoOn (r .ending) ≡ true → whole ≡ after (r .executed) (runBy step (drop (2 * r .executed) code) c (r .state))
 
   pub goes-on : (code : List ℕ) (b c : ℕ) (state : S) → Goes code c (runBy step code b state) (runBy step code (b + c) state)
   unfolding runBy

@@ -14,10 +14,9 @@ use Rattle.laws.proofs.Never.{never, wrong}
 use Rattle.insn.specs.declared.Insn.{Insn}
 use Rattle.decode.specs.Reading.{reading}
 use Rattle.meanings.specs.Meaning.{Act, meaningOf}
-use Rattle.effects.specs.File.{File}
 use Rattle.machine.specs.State.{State, acted}
 use Rattle.machine.specs.Step.{stepBy, stepRead, stepPair}
-use Rattle.runs.specs.Run.{done, stopped, goesOn, Run, atOnce, after, stepsBy, runPairs, runOf, machineSteps}
+use Rattle.runs.specs.Run.{done, stopped, mayGoOn, Run, atOnce, after, stepsBy, runPairs, runOf, machineSteps}
 use Rattle.effects.proofs.Effects.{effect-size}
 use Rattle.runs.proofs.AnyRuns as any
 use Rattle.runs.proofs.AnyRuns.{Counted, counted, bounded, goes-on}
@@ -86,10 +85,10 @@ unfolding stepsBy
 run-kept code start budget s = each-run code start budget s (Counted stepPair (drop (2 * start) code) s) refl (λ e f h. counted stepPair (drop (2 * start) code) budget s)
 
 pub run-goes-on : (code : List ℕ) (start b c : ℕ) (s : State)
-    → let r = runOf code start s b in goesOn (r .ending) ≡ true
+    → let r = runOf code start s b in mayGoOn (r .ending) ≡ true
     → runOf code start s (b + c) ≡ after (r .executed) (runOf code (start + r .executed) (r .state) c)
 run-goes-on code start b c s =
-    each-run code start b s (λ (r : Run). goesOn (r .ending) ≡ true → runOf code start s (b + c) ≡ after (r .executed) (runOf code (start + r .executed) (r .state) c))
+    each-run code start b s (λ (r : Run). mayGoOn (r .ending) ≡ true → runOf code start s (b + c) ≡ after (r .executed) (runOf code (start + r .executed) (r .state) c))
     wrong
     (λ e f h on. let rest = drop (2 * start) code in
     let r = runPairs rest b s in

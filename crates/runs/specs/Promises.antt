@@ -10,7 +10,7 @@ use Rattle.machine.specs.State.{State}
 use Rattle.machine.specs.Promises.{PairMoves}
 use Rattle.runs.specs.declared.Ran.{Ran}
 use Rattle.runs.specs.Answers.{ranOf}
-use Rattle.runs.specs.Run.{goesOn, after, runOf, machineSteps}
+use Rattle.runs.specs.Run.{mayGoOn, after, runOf, machineSteps}
 
 -- an answer says which case it is
 abbrev pub RunsApart : Type 0
@@ -30,18 +30,18 @@ pub record SomeMoves (n : ℕ) (code : List ℕ) (s : State) : Type 0 where
   pub steps : machineSteps at code s ≡ accepted reached
   pub moves : PairMoves (getD code (2 * at) 0) (getD code (2 * at + 1) 0) (reached .file)
 
--- a mark that comes as no is yes after a run exactly when one of the pairs executed moves a lane; one that comes as yes stays
+-- a mark that comes as no is yes after a run exactly when one of the pairs executed moves a lane; one that is yes stays
 abbrev pub RunMarked : Type 0
 RunMarked =
     (code : List ℕ) (start budget : ℕ) (s : State)
     → let r = runOf code start s budget in
-    (s .mark ≡ false → (r .state .mark ≡ true → SomeMoves (r .executed) (drop (2 * start) code) s) × (SomeMoves (r .executed) (drop (2 * start) code) s → r .state .mark ≡ true))
-    × (s .mark ≡ true → r .state .mark ≡ true)
+    let Moved = SomeMoves (r .executed) (drop (2 * start) code) s in
+    (s .mark ≡ false → (r .state .mark ≡ true → Moved) × (Moved → r .state .mark ≡ true)) × (s .mark ≡ true → r .state .mark ≡ true)
 
--- Where a run was done, or its budget used up, a later call from the pair after its last, with its file and mark, goes on: the two
--- end as one run with both budgets added does, with its file and mark, and their counts add up to its.
+-- Where a run was done, or its budget used up, a later call from the pair after its last, with its file and mark, goes on:
+-- the two end as one run with both budgets added does, with its file and mark, and their counts add up to its.
 abbrev pub GoesOn : Type 0
 GoesOn =
     (code : List ℕ) (start b c : ℕ) (s : State)
-    → let r = runOf code start s b in goesOn (r .ending) ≡ true
+    → let r = runOf code start s b in mayGoOn (r .ending) ≡ true
     → runOf code start s (b + c) ≡ after (r .executed) (runOf code (start + r .executed) (r .state) c)

@@ -16,9 +16,9 @@ pub data Ending : Type 0 where
   stopped : ℕ → Ending
 
 -- whether a later call goes on from there: it was done, or its budget was used up
-abbrev pub goesOn : Ending → Bool
-goesOn done = true
-goesOn (stopped n) = eqb n 15
+abbrev pub mayGoOn : Ending → Bool
+mayGoOn done = true
+mayGoOn (stopped n) = eqb n 15
 
 -- how it ends, the pairs executed, and the state that it leaves
 pub record RunOn (S : Type 0) : Type 0 where

@@ -89,7 +89,8 @@ fn go(code: &[u16], start: usize, file: [u64; 32], budget: u64, mark: bool) -> H
     halted(Outcome::Done, budget - left, f, m)
 }
 
-// The run from a start counted in pairs, while the budget of steps lasts. It leaves file and mark at the last executed pair.
+// The run from a start counted in pairs, while the budget of steps lasts. It leaves file and mark at the last pair that
+// was executed.
 pub fn run(code: &[u16], start: u64, file: &mut [u64], budget: u64, mark: &mut bool) -> Ran
     ensures answer { λ r. ⌜ ranOf r (state (now (file .exit)) (now (mark .exit))) ≡ runOf (now (code .entry)) start (state (now (file .entry)) (now (mark .entry))) budget ⌝ }
     ensures counted { λ r. ⌜ machineSteps (r .executed) (drop (2 * start) (now (code .entry))) (state (now (file .entry)) (now (mark .entry))) ≡ accepted (state (now (file .exit)) (now (mark .exit))) ⌝ }

@@ -33,9 +33,9 @@ vmov-name = refl
 
 -- VSHLL alone has another name where it is read back
 module _ (m : ℕ) (x y z : Operand) (plain : eqt (movedName (nameOf m)) "" ≡ true) where
-  -- the step of a spelling, at any mark
+  -- the step of a spelling, whatever the record's mark
   abbrev stepOf : Mark → State → Spelling → Answer State
-  stepOf mark s x = stepInsn (spelled x mark 0) s
+  stepOf mark s p = stepInsn (spelled p mark 0) s
 
   three-step : (mark : Mark) (s : State) → stepOf mark s (canonical (spelt m 3 x y z)) ≡ stepInsn (insn m T1 0 3 x y z) s
   unfolding meaningOf

@@ -64,8 +64,8 @@ fn insn_of(mnemonic: u16, count: u8, first: Operand, second: Operand, third: Ope
     }
 }
 
-// The record of a shape: copy, shift, number, float; three registers with one out of range, of two sizes, with the count 2; or three registers,
-// m where the mark is to turn.
+// The record of a shape: copy, shift, number, float; three registers with one out of range, of two sizes, with the count
+// 2; or three registers, with m where the mark is to turn.
 fn record(mnemonic: u16, shape: u8, v: u64, quad: bool) -> Insn {
     let a = register(quad, 0);
     let b = register(quad, 1);
@@ -179,7 +179,7 @@ pub fn passes(line: &[u8; 100], quad: bool) -> bool {
     steps_marked(file, i, 0, after, shape == b'm')
 }
 
-// Whether the line's vector passes on registers of different lengths: after the sign + the mark turns, after ! it is refused.
+// Whether the line's vector passes on registers of different lengths: after + the mark turns, after ! it is refused.
 pub fn passes_unlike(line: &[u8; 153], sign: u8) -> bool {
     let i = lettered(mnemonic_of(line), line, 13, field(line, 18, 2));
     let file = start_of(line);
