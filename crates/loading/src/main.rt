@@ -1,4 +1,5 @@
-// loading SHEET START: runs a sum sheet on a start file, and writes the pair count and rows 0 to 13, or the refusal.
+// loading SHEET START: runs a sum sheet on a start file, and writes the pair count and rows 0 to 13, or the refusal; and
+// `saturated` where the mark, which starts as no, ends as yes.
 ghost use Prim.Native.Nat.{_+_, _<_, _≤_};
 ghost use lib.ListN.{length};
 ghost use Rattle.loading.specs.Start.{StartFile};
