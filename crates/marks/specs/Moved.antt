@@ -4,6 +4,7 @@
 -- Assumes nothing.
 use mathlib.Core.Bool.{Bool, false}
 use Prim.Native.Nat.{ℕ, _/_}
+use lib.IntN.{ℤ}
 use Rattle.laws.specs.Search.{someBelow}
 use Rattle.insn.specs.declared.Sign.{Sign}
 use Rattle.insn.specs.declared.Width.{Width}
@@ -17,9 +18,12 @@ use Rattle.lanes.specs.Promises.{laneAt}
 use Rattle.operations.specs.declared.Operation.{Operation}
 use Rattle.operations.specs.declared.Operation.the-variants.{Lanes, Bits, Constant}
 
--- a lane of a saturating operation, x and y being the sources': its exact result is outside the range
+-- the exact result at a lane of a saturating operation, x and y being the sources' lanes; and it is outside the range
+abbrev pub exactLane : SaturatingOp → Sign → ℕ → ℕ → ℕ → ℤ
+exactLane op s w x y = exactSaturating op (readAs s w x) (readAs s w y)
+
 abbrev pub laneMoved : SaturatingOp → Sign → ℕ → ℕ → ℕ → Bool
-laneMoved op s w x y = outside s w (exactSaturating op (readAs s w x) (readAs s w y))
+laneMoved op s w x y = outside s w (exactLane op s w x y)
 
 -- some lane of it
 unfoldable pub someMoved : ℕ → SaturatingOp → Sign → Width → ℕ → ℕ → Bool

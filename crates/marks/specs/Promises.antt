@@ -11,19 +11,18 @@ use Rattle.insn.specs.declared.Sign.the-variants.{Unsigned, Signed}
 use Rattle.insn.specs.declared.Width.{Width}
 use Rattle.insn.specs.declared.Width.the-variants.{B8, B64}
 use Rattle.insn.specs.Widths.{bitsOf}
-use Rattle.arithmetic.specs.Whole.{readAs}
 use Rattle.saturating.specs.declared.SaturatingOp.{SaturatingOp}
 use Rattle.saturating.specs.declared.SaturatingOp.the-variants.{Qadd, Qsub}
-use Rattle.saturating.specs.Range.{clamp, exactSaturating}
+use Rattle.saturating.specs.Range.{clamp}
 use Rattle.lanes.specs.declared.LaneOp.the-variants.{Saturating}
 use Rattle.lanes.specs.Promises.{laneAt}
 use Rattle.operations.specs.declared.Operation.{Operation}
 use Rattle.operations.specs.declared.Operation.the-variants.{Lanes}
-use Rattle.marks.specs.Moved.{someMoved, movedBy}
+use Rattle.marks.specs.Moved.{exactLane, someMoved, movedBy}
 
--- the exact result at lane i of a saturating operation
+-- the exact result at lane i of two numbers
 abbrev pub exactAt : SaturatingOp → Sign → Width → ℕ → ℕ → ℕ → ℤ
-exactAt op s w i n m = let b = bitsOf w in exactSaturating op (readAs s b (laneAt b i n)) (readAs s b (laneAt b i m))
+exactAt op s w i n m = let b = bitsOf w in exactLane op s b (laneAt b i n) (laneAt b i m)
 
 -- an operation is a saturating one, and at a lane below `size` bits the exact result is another number after it was moved
 pub record MovedLane (size : ℕ) (op : Operation) (n m : ℕ) : Type 0 where

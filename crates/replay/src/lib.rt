@@ -23,6 +23,39 @@ pub fn put_refused(k: u64, n: u64) {
     put_count(b": ", n);
 }
 
+// The lines of an emulator's cases: how many there were, how many came out otherwise, and in how many the saturation mark
+// comes as no and is left as yes.
+pub struct Tally {
+    pub lines: u64,
+    pub wrong: u64,
+    pub turned: u64,
+}
+
+// The mark at a place of a line.
+pub fn mark_at(line: &[u8], at: usize) -> bool {
+    field(line, at, 1) == 1
+}
+
+// One line more, with the places of its two marks.
+pub fn tallied(t: Tally, line: &[u8], before: usize, after: usize, agrees: bool) -> Tally {
+    let mut next = t;
+    next.lines = next.lines % 1000000000 + 1;
+    if !agrees {
+        next.wrong = next.wrong % 1000000000 + 1;
+    }
+    if !mark_at(line, before) && mark_at(line, after) {
+        next.turned = next.turned % 1000000000 + 1;
+    }
+    next
+}
+
+// Writes what the lines are, and the counts.
+pub fn put_tally(what: &[u8], t: Tally) {
+    put_count(what, t.lines);
+    put_count(b"not as the emulator ", t.wrong);
+    put_count(b"marks turned ", t.turned);
+}
+
 // The value of a hexadecimal digit.
 pub fn digit(c: u8) -> u64
     ensures { λ r. ⌜ (r ≡ digitValue c) × (r < 16) ⌝ }

@@ -4,18 +4,15 @@
 // hexadecimal.
 use libc::STDIN_FILENO;
 use machine::Outcome;
+use replay::Tally;
 use replay::field;
 use replay::file_at;
-use replay::put_count;
+use replay::mark_at;
+use replay::put_tally;
 use replay::same_file;
+use replay::tallied;
 use runs::Ran;
 use runs::run;
-
-struct Tally {
-    runs: u64,
-    turned: u64,
-    wrong: u64,
-}
 
 // How a run ended: the refusal's number or 0, and the pairs executed.
 struct End {
@@ -44,15 +41,6 @@ fn code_of(line: &[u8; 1162]) -> [u16; 24] {
         k += 1;
     }
     code
-}
-
-fn mark_at(line: &[u8; 1162], at: usize) -> bool {
-    field(line, at, 1) == 1
-}
-
-// Whether the line's mark comes as no and is left as yes.
-fn turns(line: &[u8; 1162]) -> bool {
-    !mark_at(line, 132) && mark_at(line, 647)
 }
 
 // A run with a first budget and, where it can go on, with a second one.
@@ -103,39 +91,28 @@ fn agrees_cut(line: &[u8; 1162]) -> bool {
     true
 }
 
-// Runs every line: how many there were, how many turn the mark, and how many ended otherwise.
+// Runs every line.
 fn replayed() -> Tally {
     let mut line = [0u8; 1162];
-    let mut runs: u64 = 0;
-    let mut turned: u64 = 0;
-    let mut wrong: u64 = 0;
-    while runs < 1000000 {
+    let mut t = Tally {
+        lines: 0,
+        wrong: 0,
+        turned: 0,
+    };
+    let mut n: u64 = 0;
+    while n < 1000000 {
         let got = io::read_full(STDIN_FILENO, &mut line);
         if got < 1162 {
-            return Tally {
-                runs,
-                turned,
-                wrong,
-            };
+            return t;
         }
-        if !agrees_cut(&line) {
-            wrong = wrong % 1000000 + 1;
-        }
-        if turns(&line) {
-            turned = turned % 1000000 + 1;
-        }
-        runs += 1;
+        let same = agrees_cut(&line);
+        let next = tallied(t, &line, 132, 647, same);
+        t = next;
+        n += 1;
     }
-    Tally {
-        runs,
-        turned,
-        wrong,
-    }
+    t
 }
 
 fn main() {
-    let t = replayed();
-    put_count(b"runs ", t.runs);
-    put_count(b"marks turned ", t.turned);
-    put_count(b"not as the emulator ", t.wrong);
+    put_tally(b"runs ", replayed());
 }
