@@ -1,6 +1,7 @@
 //! Random steps, sheets and files; every run has the same ones.
 
 use crate::model::uses;
+use crate::pairs::expanded;
 use crate::step::{Step, STEP};
 
 /// A stream of numbers that look random (splitmix64).
@@ -59,8 +60,14 @@ impl Chance {
         }
     }
 
-    /// A half of a constant: words that agree, one word alone, or two.
-    fn half(&mut self) -> u64 {
+    /// A half of a constant: what one pair leaves, or nearly; words that agree, one word alone, or two.
+    pub fn half(&mut self) -> u64 {
+        if self.once_in(3) {
+            let value = expanded(self.below(2) as u16, self.below(16) as u16, self.word() as u8);
+            let value = if self.once_in(2) { !value } else { value };
+            let bit = 1 << self.below(64);
+            return if self.once_in(4) { value ^ bit } else { value };
+        }
         let (low, high) = (self.constant_word(), self.constant_word());
         let (low, high) = match self.below(5) {
             0 => (low, low),

@@ -5,7 +5,7 @@ use crate::boundary;
 use crate::chance::{sheet_of, Chance};
 use crate::counts::Counts;
 use crate::model::{self, uses};
-use crate::pairs::{code_of, Pair};
+use crate::pairs::{code_of, of_half, Pair};
 use crate::report::Report;
 use crate::step::{steps_of, Step, STEP};
 use std::process::ExitCode;
@@ -30,12 +30,18 @@ const REFUSED: [([u16; 2], u32); 12] = [
 ];
 
 #[derive(Default)]
-struct Compared {
-    report: Report,
+pub struct Compared {
+    pub report: Report,
     counts: Counts,
     evaluations: u64,
     /// The chances of the marks, which change no other case.
     marks: Chance,
+}
+
+/// The output that ours leaves, and what the model gives.
+pub struct Translation {
+    out: Vec<u16>,
+    due: Result<Vec<Pair>, (u32, u64)>,
 }
 
 pub fn compare(count: usize) -> ExitCode {
@@ -91,6 +97,19 @@ impl Compared {
             Err(_) => chance.below(64),
         };
         let room = room(chance, need);
+        let Translation { out, due } = self.translation(chance, sheet, room);
+        if let Err((14, _)) = due {
+            self.counts.add("halfwords missing at 14 (9: more)", (need - room).min(9) as u64);
+        }
+        if let Ok(pairs) = due {
+            self.counts.add("halfwords left over (9: more)", (room - need).min(9) as u64);
+            self.covered(&steps_of(sheet));
+            self.runs(chance, &steps_of(sheet), &pairs, &out[..2 * pairs.len()]);
+        }
+    }
+
+    /// One translation into so many halfwords compared.
+    pub fn translation(&mut self, chance: &mut Chance, sheet: &[u8], room: usize) -> Translation {
         let mut out: Vec<u16> = (0..room + BEYOND).map(|_| chance.word() as u16).collect();
         let mut due_out = out.clone();
         let due = answers::translation(sheet, room);
@@ -105,14 +124,7 @@ impl Compared {
         self.report.expect(ours, answer, || format!("translation of {sheet:x?} into {room}"));
         self.report.expect(&out, &due_out, || format!("output of {sheet:x?} in {room}"));
         self.counts.add("translation answers", answer.0.into());
-        if answer.0 == 14 {
-            self.counts.add("halfwords missing at 14 (9: more)", (need - room).min(9) as u64);
-        }
-        if let Ok(pairs) = due {
-            self.counts.add("halfwords left over (9: more)", (room - need).min(9) as u64);
-            self.covered(&steps_of(sheet));
-            self.runs(chance, &steps_of(sheet), &pairs, &out[..2 * pairs.len()]);
-        }
+        Translation { out, due }
     }
 
     /// The sheet translated and run by one call. Its chances are its own, so that it changes no other case.
@@ -123,12 +135,17 @@ impl Compared {
         let room = room(&mut chance, 2 * n);
         let budget = chance.one(&[n, n, n, n + 1, n / 2, n.saturating_sub(1), 0, usize::MAX]) as u64;
         let words = chance.one(&[32, 32, 32, 32, 32, 32, 32, 31, 33, 0]);
+        self.evaluation(&mut chance, sheet, room, budget, words);
+    }
+
+    /// One evaluation into so many halfwords, on a file of so many words, compared.
+    pub fn evaluation(&mut self, chance: &mut Chance, sheet: &[u8], room: usize, budget: u64, words: usize) {
         let file: Vec<u64> = (0..words).map(|_| chance.doubleword()).collect();
         let mut left = file.clone();
         let mut out: Vec<u16> = (0..room + BEYOND).map(|_| chance.word() as u16).collect();
         let mut due_out = out.clone();
         if let Ok(pairs) = answers::translation(sheet, room) {
-            due_out[..2 * n].copy_from_slice(&code_of(&pairs));
+            due_out[..2 * pairs.len()].copy_from_slice(&code_of(&pairs));
         }
         let mark = self.mark();
         let due = answers::evaluation(sheet, room, &file, budget);
@@ -162,9 +179,7 @@ impl Compared {
                 self.counts.saw("shifts with width, sign and amount", &[kind, width, sign, amount]);
             }
             if kind == 0 {
-                let pairs = |half| answers::translation(&constant(half), usize::MAX).map_or(0, |p| p.len() - 1);
-                self.counts.add("constant halves of pairs", pairs(low) as u64);
-                self.counts.add("constant halves of pairs", pairs(high) as u64);
+                self.halves(low, high);
             }
             let rows = [('a', a), ('b', b), ('c', c)];
             let used: Vec<_> = rows.iter().filter(|(letter, _)| uses(kind, *letter)).map(|r| r.1).collect();
@@ -172,6 +187,17 @@ impl Compared {
             let first = |row: &u8| rows.iter().position(|other| other == row).expect("itself") as u8;
             let form = [vec![kind], rows.iter().map(first).collect()].concat();
             self.counts.saw("kinds with agreements among their rows", &form);
+        }
+    }
+
+    /// The two halves of a constant, counted.
+    fn halves(&mut self, low: u64, high: u64) {
+        for half in [low, high] {
+            let pairs = of_half(0, half).len() as u64;
+            self.counts.add("constant halves of pairs", pairs);
+            if pairs == 1 {
+                self.counts.saw("constant halves of one pair", &half.to_le_bytes());
+            }
         }
     }
 
@@ -296,9 +322,4 @@ fn room(chance: &mut Chance, need: usize) -> usize {
         14 => less,
         _ => 0,
     }
-}
-
-/// A sheet of one constant, whose high half is one pair.
-fn constant(low: u64) -> Vec<u8> {
-    sheet_of(&[Step { low, ..Step::default() }])
 }

@@ -2,6 +2,7 @@
 
 use crate::boundary;
 use crate::chance::{sheet_of, Chance};
+use crate::halves;
 use crate::model;
 use crate::report::Report;
 use crate::step::Step;
@@ -16,15 +17,20 @@ struct Program {
     mark: u8,
 }
 
-/// A sheet of ours, translated; each fiftieth has 256 steps, and each third the mark yes.
-fn program(chance: &mut Chance, index: usize) -> Program {
-    let count = if index % 50 == 0 { 256 } else { chance.count().max(1) };
-    let steps = chance.steps(count);
-    let mut code = vec![0; 40 * count];
+/// The steps translated by ours; each third program has the mark yes.
+fn program(chance: &mut Chance, index: usize, steps: Vec<Step>) -> Program {
+    let mut code = vec![0; 40 * steps.len()];
     let (answer, pairs) = boundary::translate(&sheet_of(&steps), &mut code);
     assert_eq!(answer, 0, "a sheet that keeps the rules is translated");
     code.truncate(2 * pairs as usize);
     Program { steps, code, file: chance.file(), mark: u8::from(index % 3 == 2) }
+}
+
+/// A random program; each fiftieth has 256 steps.
+fn random(chance: &mut Chance, index: usize) -> Program {
+    let count = if index % 50 == 0 { 256 } else { chance.count().max(1) };
+    let steps = chance.steps(count);
+    program(chance, index, steps)
 }
 
 /// What the emulator leaves of each file, and the mark after it as one word more.
@@ -49,10 +55,22 @@ fn emulated(harness: &str, programs: &[Program]) -> Vec<[u64; 33]> {
 
 pub fn emulate(harness: &str, count: usize) -> ExitCode {
     let mut chance = Chance(2);
-    let programs: Vec<_> = (0..count).map(|k| program(&mut chance, k)).collect();
-    let left = emulated(harness, &programs);
     let mut report = Report::default();
-    report.expect(left.len(), count, || "files that the emulator left".to_owned());
+    let programs: Vec<_> = (0..count).map(|k| random(&mut chance, k)).collect();
+    held(harness, &mut report, "", &programs);
+    let values = halves::values();
+    let all: Vec<_> = values.iter().copied().collect();
+    let constants = all.chunks(14).map(halves::constants).enumerate();
+    let programs: Vec<_> = constants.map(|(k, steps)| program(&mut chance, k, steps)).collect();
+    held(harness, &mut report, &format!("{}: ", halves::told(&values)), &programs);
+    report.status()
+}
+
+/// Programs run by the emulator, and what it leaves compared with the model's rows and with our run; a line says so.
+fn held(harness: &str, report: &mut Report, what: &str, programs: &[Program]) {
+    let before = report.disagreements;
+    let left = emulated(harness, programs);
+    report.expect(left.len(), programs.len(), || "files that the emulator left".to_owned());
     for (program, [left @ .., mark]) in programs.iter().zip(&left) {
         let rows = model::meaning(&program.steps, model::rows_of(&program.file));
         report.expect(model::rows_of(left), rows, || format!("emulated rows of {:x?}", program.steps));
@@ -65,6 +83,6 @@ pub fn emulate(harness: &str, count: usize) -> ExitCode {
     }
     let steps: usize = programs.iter().map(|program| program.steps.len()).sum();
     let pairs: usize = programs.iter().map(|program| program.code.len() / 2).sum();
-    println!("emulated {count} programs, {steps} steps, {pairs} pairs: {} disagreements", report.disagreements);
-    report.status()
+    let found = report.disagreements - before;
+    println!("emulated {what}{} programs, {steps} steps, {pairs} pairs: {found} disagreements", programs.len());
 }

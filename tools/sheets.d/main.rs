@@ -6,6 +6,8 @@ mod chance;
 mod compare;
 mod counts;
 mod emulate;
+mod halves;
+mod means;
 mod model;
 mod pairs;
 #[path = "../compare.d/oracle/report.rs"]
@@ -22,8 +24,10 @@ fn main() -> ExitCode {
     match words.iter().map(String::as_str).collect::<Vec<_>>()[..] {
         ["compare", _] => compare::compare(count()),
         ["emulate", harness, _] => emulate::emulate(harness, count()),
+        ["halves"] => halves::halves(),
+        ["means", ref files @ ..] => means::means(files),
         ["sample"] => sample::sample(),
         ["speed"] => speed::speed(),
-        _ => panic!("compare COUNT, emulate HARNESS COUNT, sample or speed"),
+        _ => panic!("compare COUNT, emulate HARNESS COUNT, halves, means FILE.., sample or speed"),
     }
 }

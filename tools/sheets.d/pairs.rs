@@ -1,7 +1,10 @@
-//! The pairs that document 01 has written for each step: their halfwords by the manual (A7-9, A7-12,
-//! A7-15) and their effect on the file by the document's register machine. It knows no row's meaning.
+//! The pairs that document 01 has written for each step, one for a constant's half where one will do: their halfwords
+//! by the manual (A7-9, A7-12, A7-15) and their effect on the file by the document's register machine. It knows no
+//! row's meaning.
 
 use crate::step::Step;
+use std::collections::BTreeMap;
+use std::sync::OnceLock;
 
 #[derive(Clone, Copy, Debug)]
 pub enum Op {
@@ -21,10 +24,9 @@ pub enum Op {
     Greater(u8),
     Left(u8),
     Right(u8, u8),
-    /// vmov.i32 of a byte; vorr.i32 of a byte at 8, 16 or 24; vmov.i64 of the low 32 bits.
-    Set(u8),
+    /// vmov or vmvn of a modified immediate, by op, cmode and imm8; vorr.i32 of a byte at 8, 16 or 24.
+    Set(u16, u16, u8),
     Join(u8, u32),
-    Mask,
 }
 
 /// One pair: D registers by number, a quad by its first.
@@ -70,7 +72,7 @@ pub fn of_step(step: &Step) -> Vec<Pair> {
         5 => bits(Op::And),
         6 => bits(Op::Or),
         7 => bits(Op::Xor),
-        8 => vec![on_quads(Op::Set(0), 0, Q14, 0, 0), on_quads(Op::OrNot, 0, t, Q14, a)],
+        8 => vec![on_quads(Op::Set(0, 0, 0), 0, Q14, 0, 0), on_quads(Op::OrNot, 0, t, Q14, a)],
         9 => vec![on_quads(Op::Left(amount), width, t, 0, a)],
         10 if amount == 0 => vec![copy(t, a)],
         10 => vec![on_quads(Op::Right(sign, amount), width, t, 0, a)],
@@ -81,13 +83,75 @@ pub fn of_step(step: &Step) -> Vec<Pair> {
     }
 }
 
-/// 64 bits in a D register.
-fn of_half(d: u8, value: u64) -> Vec<Pair> {
+/// AdvSIMDExpandImm: the 64-bit pattern of a modified immediate.
+pub fn expanded(op: u16, cmode: u16, imm8: u8) -> u64 {
+    let byte = u64::from(imm8);
+    let words = |word: u64| word << 32 | word;
+    let halfwords = |half: u64| words(half << 16 | half);
+    match (cmode >> 1, cmode & 1, op) {
+        (0..=3, ..) => words(byte << (8 * (cmode >> 1))),
+        (4, ..) => halfwords(byte),
+        (5, ..) => halfwords(byte << 8),
+        (6, 0, _) => words(byte << 8 | 0xff),
+        (6, ..) => words(byte << 16 | 0xffff),
+        (_, 0, 0) => halfwords(byte << 8 | byte),
+        (_, 0, _) => u64::from_le_bytes(std::array::from_fn(|k| 0xff * (imm8 >> k & 1))),
+        _ => {
+            let exponent = if imm8 & 0x40 == 0 { 0x4000_0000 } else { 0x3e00_0000 };
+            words((byte >> 7) << 31 | exponent | (byte & 0x3f) << 19)
+        }
+    }
+}
+
+/// Whether a modified immediate is read, and as a vmov or a vmvn.
+fn sets(op: u16, cmode: u16, imm8: u8) -> bool {
+    let joins = cmode < 12 && cmode & 1 == 1;
+    let blank = op == 1 && cmode == 15;
+    let refused = imm8 == 0 && [1, 2, 3, 5, 6].contains(&(cmode >> 1));
+    !(joins || blank || refused)
+}
+
+/// What such a pair leaves in a D register: with op 1 all but vmov.i64 are vmvn.
+fn left_by(op: u16, cmode: u16, imm8: u8) -> u64 {
+    let pattern = expanded(op, cmode, imm8);
+    if op == 1 && cmode != 14 {
+        !pattern
+    } else {
+        pattern
+    }
+}
+
+/// Each value that one pair leaves in a D register, with the lowest op, then cmode, then imm8.
+pub fn ones() -> &'static BTreeMap<u64, (u16, u16, u8)> {
+    static ONES: OnceLock<BTreeMap<u64, (u16, u16, u8)>> = OnceLock::new();
+    ONES.get_or_init(|| {
+        let mut all = BTreeMap::new();
+        for place in 0u16..1 << 13 {
+            let (op, cmode, imm8) = (place >> 12, place >> 8 & 15, place as u8);
+            if sets(op, cmode, imm8) {
+                all.entry(left_by(op, cmode, imm8)).or_insert((op, cmode, imm8));
+            }
+        }
+        assert_eq!(all.len(), 4822, "the number of values that one pair leaves");
+        all
+    })
+}
+
+/// 64 bits in a D register: one pair where one will do, else the longer recipe.
+pub fn of_half(d: u8, value: u64) -> Vec<Pair> {
+    match ones().get(&value) {
+        Some(&(op, cmode, imm8)) => vec![on_doubles(Op::Set(op, cmode, imm8), d, 0, 0)],
+        None => of_words(d, value),
+    }
+}
+
+/// 64 bits in a D register by document 01's recipe.
+pub fn of_words(d: u8, value: u64) -> Vec<Pair> {
     let (low, high) = (value as u32, (value >> 32) as u32);
     let mut pairs = of_word(d, low);
     if low != high {
         pairs.extend(of_word(D28, high));
-        pairs.push(on_doubles(Op::Mask, D30, 0, 0));
+        pairs.push(on_doubles(Op::Set(1, 14, 0b1111), D30, 0, 0));
         pairs.push(on_doubles(Op::Keep, d, D28, D30));
     }
     pairs
@@ -96,7 +160,7 @@ fn of_half(d: u8, value: u64) -> Vec<Pair> {
 /// 32 bits in both words of a D register.
 fn of_word(d: u8, value: u32) -> Vec<Pair> {
     let [lowest, others @ ..] = value.to_le_bytes();
-    let mut pairs = vec![on_doubles(Op::Set(lowest), d, 0, 0)];
+    let mut pairs = vec![on_doubles(Op::Set(0, 0, lowest), d, 0, 0)];
     for (byte, at) in others.into_iter().zip([8, 16, 24]) {
         if byte != 0 {
             pairs.push(on_doubles(Op::Join(byte, at), d, 0, 0));
@@ -124,9 +188,8 @@ impl Pair {
             Op::Greater(sign) => self.same(by_sign(sign), width, 3, 0),
             Op::Left(amount) => self.shift(0, 5, (8 << width) + u16::from(amount)),
             Op::Right(sign, amount) => self.shift(by_sign(sign), 0, (16 << width) - u16::from(amount)),
-            Op::Set(byte) => self.immediate(0, 0, byte),
+            Op::Set(op, cmode, imm8) => self.immediate(op, cmode, imm8),
             Op::Join(byte, at) => self.immediate(0, at as u16 / 4 + 1, byte),
-            Op::Mask => self.immediate(1, 14, 0b1111),
         }
     }
 
@@ -182,9 +245,8 @@ impl Pair {
             Op::Left(amount) => self.lanes(n, m, |_, m| m << amount),
             Op::Right(1, amount) => self.lanes(n, m, |_, m| (self.signed(m) >> amount.min(63)) as u64),
             Op::Right(_, amount) => self.lanes(n, m, |_, m| m.checked_shr(amount.into()).unwrap_or(0)),
-            Op::Set(byte) => both_words(byte.into()),
+            Op::Set(op, cmode, imm8) => left_by(op, cmode, imm8),
             Op::Join(byte, at) => d | both_words(u32::from(byte) << at),
-            Op::Mask => 0xffff_ffff,
         }
     }
 

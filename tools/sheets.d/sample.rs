@@ -3,6 +3,7 @@
 
 use crate::answers;
 use crate::chance::{sheet_of, Chance};
+use crate::halves::constants;
 use crate::model::uses;
 use crate::pairs::code_of;
 use crate::step::{Step, STEP};
@@ -21,6 +22,21 @@ const WRONG: [(u8, usize, u8); 22] = [
     (2, 5, 4), (3, 5, 4), (9, 5, 4), (10, 5, 4), (4, 5, 3), (11, 5, 3), (12, 5, 3), (13, 5, 3),
     (10, 7, 2), (11, 7, 2), (12, 7, 2), (13, 7, 2), (2, 7, 1), (3, 7, 1), (9, 7, 1), (2, 6, 1), (11, 6, 1),
     (0, 0, 255), (5, 1, 255), (5, 3, 14), (7, 4, 1), (1, 3, 1),
+];
+
+/// Halves of constants: what each sort of one pair leaves, then what several sorts leave, then what none does.
+#[rustfmt::skip]
+const HALVES: [u64; 42] = [
+    0x0000_00a5_0000_00a5, 0x0000_a500_0000_a500, 0x00a5_0000_00a5_0000, 0xa500_0000_a500_0000, // vmov.i32
+    0x00a5_00a5_00a5_00a5, 0xa500_a500_a500_a500, 0x0000_a5ff_0000_a5ff, 0x00a5_ffff_00a5_ffff, // vmov.i16, vmov.i32
+    0xa5a5_a5a5_a5a5_a5a5, 0x3f80_0000_3f80_0000, 0xbe98_0000_be98_0000, 0x4178_0000_4178_0000, // vmov.i8, vmov.f32
+    0xffff_ff5a_ffff_ff5a, 0xffff_5aff_ffff_5aff, 0xff5a_ffff_ff5a_ffff, 0x5aff_ffff_5aff_ffff, // vmvn.i32
+    0xff5a_ff5a_ff5a_ff5a, 0x5aff_5aff_5aff_5aff, 0xffff_5a00_ffff_5a00, 0xff5a_0000_ff5a_0000, // vmvn.i16, vmvn.i32
+    0x00ff_ff00_00ff_ff00, 0xff00_00ff_ff00_00ff, 0x0000_0000_ffff_ffff, 0xff00_0000_0000_0000, // vmov.i64
+    0, u64::MAX, 0xffff_ff00_ffff_ff00, 0x0000_ffff_0000_ffff, 0x00ff_00ff_00ff_00ff, 0x4000_0000_4000_0000,
+    1, 0x0000_0001_0000_0000, 0x0101_0102_0101_0102, 0x0101_0101_0101_0102, 0x3f80_0000, 0x3f80_0000_0000_0000,
+    0x3f84_0000_3f84_0000, 0x0000_a5fe_0000_a5fe, 0x00a5_00a5_00a5_00a4, 0xffff_ff5a_ffff_ff5b, 0x00ff_ff00_00ff_ff01,
+    0xa501_0000_a501_0000,
 ];
 
 /// How a case's sheet is handed in; what is left out is as much as is needed.
@@ -43,6 +59,7 @@ pub fn sample() -> ExitCode {
     sample.broken();
     sample.short();
     sample.endings();
+    sample.halves();
     for _ in 0..RANDOM {
         let count = 1 + sample.chance.below(6);
         let steps = sample.chance.steps(count);
@@ -202,6 +219,17 @@ impl Sample {
         let sheet = sheet_of(&self.chance.steps(2));
         for words in [0, 1, 31] {
             self.case(&sheet, How { file: Some(words), budget: Some(0), ..How::default() });
+        }
+    }
+
+    /// Each of the halves low in one row and high in one; the output as long as needed, and a halfword short.
+    fn halves(&mut self) {
+        for some in HALVES.chunks(14) {
+            let sheet = sheet_of(&constants(some));
+            let need = answers::translation(&sheet, usize::MAX).map_or(0, |pairs| 2 * pairs.len());
+            for room in [need, need - 1] {
+                self.case(&sheet, How { room: Some(room), ..How::default() });
+            }
         }
     }
 }

@@ -1,10 +1,11 @@
 //! How fast sheets are translated and their pairs run, by the number of steps; beside it the model, which is plain
-//! Rust and whose run has the pairs read already. All measurements take turns.
+//! Rust and whose run has the pairs read already. All measurements take turns. The pairs counted are those that ours
+//! writes, whatever its recipe for constants.
 
 use crate::answers;
 use crate::boundary;
 use crate::chance::{sheet_of, Chance};
-use crate::pairs::{code_of, Pair};
+use crate::pairs::{code_of, ones, Pair};
 use crate::step::Step;
 use std::hint::black_box;
 use std::process::ExitCode;
@@ -13,9 +14,17 @@ use std::time::Instant;
 const ROUNDS: usize = 1001;
 const SIZES: [usize; 3] = [16, 64, 256];
 
+/// The sorts of halves that constants are measured apart for.
+const HALVES: [&str; 3] =
+    ["constants, one pair a half", "constants, longer, words alike", "constants, longer, words differ"];
+
 /// Steps handled in one measurement.
 const STEPS: usize = 1_024;
 
+/// Halfwords of a step at most.
+const MOST: usize = 40;
+
+/// A sheet with its pairs by the model and its halfwords by ours.
 struct Sheet {
     what: &'static str,
     steps: usize,
@@ -28,20 +37,27 @@ impl Sheet {
     fn new(what: &'static str, steps: &[Step]) -> Sheet {
         let sheet = sheet_of(steps);
         let pairs = answers::translation(&sheet, usize::MAX).expect("a sheet that keeps the rules");
-        let code = code_of(&pairs);
+        let mut code = vec![0; MOST * steps.len()];
+        let (_, count) = boundary::translate(&sheet, &mut code);
+        code.truncate(2 * count as usize);
         Sheet { what, steps: steps.len(), sheet, pairs, code }
+    }
+
+    /// Pairs of our translation.
+    fn count(&self) -> usize {
+        self.code.len() / 2
     }
 
     /// One turn: nanoseconds a step and a pair, ours and the model's.
     fn turn(&self) -> [f64; 4] {
         let times = STEPS / self.steps;
-        let mut out = vec![0; self.code.len()];
+        let mut out = vec![0; MOST * self.steps];
         let mut file = [0x0123_4567_89ab_cdef; 32];
         let translation = timed(times, || {
             black_box(boundary::translate(black_box(&self.sheet), &mut out));
         });
         let theirs = timed(times, || {
-            let pairs = answers::translation(black_box(&self.sheet), self.code.len());
+            let pairs = answers::translation(black_box(&self.sheet), usize::MAX);
             black_box(pairs.map(|pairs| code_of(&pairs)).is_ok());
         });
         let run = timed(times, || {
@@ -50,8 +66,8 @@ impl Sheet {
         let interpreted = timed(times, || {
             file = black_box(answers::run(black_box(&self.pairs), 0, &file, u64::MAX)).2;
         });
-        let (steps, pairs) = (self.steps as f64, self.pairs.len() as f64);
-        [translation / steps, theirs / steps, run / pairs, interpreted / pairs]
+        let steps = self.steps as f64;
+        [translation / steps, theirs / steps, run / self.count() as f64, interpreted / self.pairs.len() as f64]
     }
 }
 
@@ -67,8 +83,9 @@ pub fn speed() -> ExitCode {
     let mixed: Vec<_> = (0..256).map(|k| chance.step(k as u8 % 16 % 15)).collect();
     let constants: Vec<_> = (0..256).map(|_| chance.step(0)).collect();
     let kinds = [("all kinds", mixed), ("constants", constants)];
-    let sheets: Vec<_> =
-        kinds.iter().flat_map(|(what, steps)| SIZES.map(|size| Sheet::new(what, &steps[..size]))).collect();
+    let by_size = kinds.iter().flat_map(|(what, steps)| SIZES.map(|size| Sheet::new(what, &steps[..size])));
+    let by_half = HALVES.iter().enumerate().map(|(k, what)| Sheet::new(what, &of_sort(&mut chance, k)));
+    let sheets: Vec<_> = by_size.chain(by_half).collect();
     let mut turns = vec![Vec::new(); sheets.len()];
     for _ in 0..=ROUNDS {
         for (sheet, turns) in sheets.iter().zip(&mut turns) {
@@ -84,12 +101,25 @@ pub fn speed() -> ExitCode {
             "| {} | {} | {} | {step:.1} | {step_model:.1} | {:.1} million | {pair:.1} | {pair_model:.1} | {:.1} million |",
             sheet.what,
             sheet.steps,
-            sheet.pairs.len(),
+            sheet.count(),
             1e3 / step,
             1e3 / pair
         );
     }
     ExitCode::SUCCESS
+}
+
+/// 256 constants both of whose halves are of that sort.
+fn of_sort(chance: &mut Chance, sort: usize) -> Vec<Step> {
+    let mut half = || loop {
+        let value = chance.half();
+        let alike = value as u32 == (value >> 32) as u32;
+        let found = if ones().contains_key(&value) { 0 } else { 2 - usize::from(alike) };
+        if found == sort {
+            return value;
+        }
+    };
+    (0..=255).map(|k| Step { target: k % 14, low: half(), high: half(), ..Step::default() }).collect()
 }
 
 fn median(turns: &[[f64; 4]], k: usize) -> f64 {

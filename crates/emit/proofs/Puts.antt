@@ -1,15 +1,19 @@
 -- The halfwords of records placed one after another.
 -- Assumes nothing.
-use mathlib.Core.Path.{_≡_, refl, sym}
-use mathlib.Core.List.{List, [], _∷_, _++_, append-assoc}
+use mathlib.Core.Path.{_≡_, refl, sym, ap, _∙_}
+use mathlib.Core.Bool.{Bool}
+use mathlib.Core.List.{List, [], _∷_, _++_, append-assoc, append-nil}
 use Prim.Native.Nat.{ℕ, _+_}
-use Rattle.laws.specs.Answer.{accepted, refused}
+use Rattle.laws.specs.Answer.{Answer, accepted}
 use Rattle.laws.specs.Placed.{Placed}
 use Rattle.laws.proofs.Placed.{then, nothing}
 use Rattle.insn.specs.declared.Insn.{Insn}
-use Rattle.writings.specs.Forms.{pair}
+use Rattle.insn.specs.declared.Operand.{Operand}
+use Rattle.writings.specs.Forms.{Pair}
+use Rattle.write_immediates.specs.Modimm.{modimmPair}
 use Rattle.encode.specs.Writing.{writing}
-use Rattle.recipes.specs.Pairs.{halfwords, halfwordsOf}
+use Rattle.recipes.specs.Pairs.{recordAt, halfwords, halfwordsOf}
+use Rattle.recipes.proofs.Places.{Register, Read, place-writes}
 
 code-append : (xs ys : List Insn) → halfwordsOf (xs ++ ys) ≡ halfwordsOf xs ++ halfwordsOf ys
 unfolding halfwordsOf
@@ -20,14 +24,15 @@ pub put-none : {b : ℕ} (l : List ℕ) (i : ℕ) → Placed b l i (halfwordsOf 
 unfolding halfwordsOf
 put-none l i = nothing l i
 
--- a record that is written, and one that is not
-pub put-one : {b i j hw1 hw2 : ℕ} {l l′ : List ℕ} (x : Insn) → writing x ≡ accepted (pair hw1 hw2) → Placed b l i (hw1 ∷ hw2 ∷ []) l′ j → Placed b l i (halfwordsOf (x ∷ [])) l′ j
+-- a record, by what it is written as
+pub put-as : {b i j : ℕ} {l l′ : List ℕ} (x : Insn) (a : Answer Pair) → writing x ≡ a → Placed b l i (halfwords a) l′ j → Placed b l i (halfwordsOf (x ∷ [])) l′ j
 unfolding halfwordsOf
-put-one x e p = rw e p
+put-as x a e p = rw (e, append-nil (halfwords a)) p
 
-pub put-refused : (x : Insn) (l : List ℕ) (i n : ℕ) → writing x ≡ refused n → Placed 2 l i (halfwordsOf (x ∷ [])) l i
-unfolding halfwordsOf
-put-refused x l i n e = rw e (nothing l i)
+-- a record that stands at a place op:cmode:imm8
+pub put-at : {b i j : ℕ} {l l′ : List ℕ} {quad : Bool} {a : Operand} {d t : ℕ} (x : Insn) → Register quad a d → Read t → recordAt a t ≡ x
+    → Placed b l i (halfwords (accepted (modimmPair t quad d))) l′ j → Placed b l i (halfwordsOf (x ∷ [])) l′ j
+put-at x register read same p = put-as x _ (ap writing (sym same) ∙ place-writes register read) p
 
 -- records and then others
 pub put-then : {a b : ℕ} {l l′ l″ : List ℕ} {i j k : ℕ} (xs ys : List Insn) → Placed a l i (halfwordsOf xs) l′ j → Placed b l′ j (halfwordsOf ys) l″ k → Placed (a + b) l i (halfwordsOf (xs ++ ys)) l″ k

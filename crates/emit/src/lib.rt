@@ -4,19 +4,27 @@ ghost use mathlib.Core.Bool.{true};
 ghost use mathlib.Core.List.{[], _∷_};
 ghost use Prim.Native.Nat.{ℕ, _+_, _*_, _%_, _^_, _<_, _≤_};
 ghost use lib.ListN.{length, set};
+ghost use Rattle.laws.specs.Answer.{accepted};
 ghost use Rattle.laws.specs.Placed.{Placed};
-ghost use Rattle.recipes.specs.Pairs.{addByte, wordPairs, joinPairs, halfPairs, pairsBy, pairsOf, halfwordsOf};
+ghost use Rattle.recipes.specs.Pairs.{addByte, wordPairs, joinPairs, halfPairs, pairsBy, pairsOf, halfwords, halfwordsOf};
 ghost use Rattle.steps.specs.Rules.{keeps};
 ghost use Rattle.steps.specs.Steps.{stepAt, stepsFrom};
+ghost use Rattle.write_immediates.specs.Modimm.{modimmPair};
+ghost use Rattle.writings.specs.Answers.{writingAnswer};
 use insn::Edition;
 use insn::Insn;
-use insn::Operand;
 use recipes::Recipe;
 use recipes::recipe_of;
 use recipes::records;
 use steps::Step;
 use steps::bytes::step_at;
+use write_immediates::modimm::modimm_pair;
 use writings::Writing;
+
+// The places op:cmode:imm8 of VMOV.I32 with a zero, and of VMOV.I64 with a word of ones.
+const ZERO: u16 = 0;
+
+const LOW_WORD: u16 = 0x1e0f;
 
 // Puts a halfword at a place of the output, if it has that place.
 fn store(out: &mut [u16], at: usize, v: u16)
@@ -37,57 +45,73 @@ fn put_pair(out: &mut [u16], at: usize, hw1: u16, hw2: u16) -> usize
     at + 2
 }
 
-// Puts a record's pair, as edition C has it.
-fn put(out: &mut [u16], at: usize, i: Insn) -> usize
+// Puts what was written, if it was.
+fn put_written(out: &mut [u16], at: usize, w: Writing) -> usize
     requires { ⌜ at < 2 ^ 32 ⌝ }
-    ensures { λ r. ⌜ Placed 2 (now (out .entry)) at (halfwordsOf (i ∷ [])) (now (out .exit)) r ⌝ }
+    ensures { λ r. ⌜ Placed 2 (now (out .entry)) at (halfwords (writingAnswer w)) (now (out .exit)) r ⌝ }
 {
-    let w = encode::write(Edition::C, i);
     match w {
         Writing::Wrote(hw1, hw2) => put_pair(out, at, hw1, hw2),
         Writing::Refused(_) => at,
     }
 }
 
-// The lowest byte of v, where it is not 0, times the unit of its place.
-fn put_byte(out: &mut [u16], at: usize, r: u8, v: u32, unit: u32) -> usize
-    requires { ⌜ (at < 2 ^ 32) × (unit ≤ 2 ^ 24) ⌝ }
-    ensures { λ n. ⌜ Placed 2 (now (out .entry)) at (halfwordsOf (addByte r (v % 256 * unit))) (now (out .exit)) n ⌝ }
+// Puts a record's pair, as edition C has it.
+fn put(out: &mut [u16], at: usize, i: Insn) -> usize
+    requires { ⌜ at < 2 ^ 32 ⌝ }
+    ensures { λ r. ⌜ Placed 2 (now (out .entry)) at (halfwordsOf (i ∷ [])) (now (out .exit)) r ⌝ }
 {
-    let byte = v % 0x100 * unit;
+    put_written(out, at, encode::write(Edition::C, i))
+}
+
+// Puts the pair of a place op:cmode:imm8 that is read, and a register.
+fn put_place(out: &mut [u16], at: usize, t: u16, quad: bool, d: u8) -> usize
+    requires { ⌜ at < 2 ^ 32 ⌝ }
+    ensures { λ r. ⌜ Placed 2 (now (out .entry)) at (halfwords (accepted (modimmPair t quad d))) (now (out .exit)) r ⌝ }
+{
+    put_written(out, at, modimm_pair(t, quad, d))
+}
+
+// VORR.I32 of the lowest byte of v at bit 8k, where it is not 0: its row is 2k + 1.
+fn put_byte(out: &mut [u16], at: usize, r: u8, v: u32, k: u16) -> usize
+    requires { ⌜ (at < 2 ^ 32) × ((r < 32) × (k < 4)) ⌝ }
+    ensures { λ n. ⌜ Placed 2 (now (out .entry)) at (halfwordsOf (addByte r (v % 256 * 2 ^ (8 * k)))) (now (out .exit)) n ⌝ }
+{
+    let byte = (v % 0x100) as u16;
     if byte == 0 {
         return at;
     }
-    put(out, at, records::join_byte(r, byte))
+    put_place(out, at, (2 * k + 1) * 0x100 + byte, false, r)
 }
 
-// 32 bits, in both words of a D register.
+// 32 bits, in both words of a D register: VMOV.I32 of the lowest byte, in row 0, and the others joined.
 fn put_word(out: &mut [u16], at: usize, r: u8, v: u32) -> usize
-    requires { ⌜ at < 2 ^ 31 ⌝ }
+    requires { ⌜ (at < 2 ^ 31) × (r < 32) ⌝ }
     ensures { λ n. ⌜ Placed 8 (now (out .entry)) at (halfwordsOf (wordPairs r v)) (now (out .exit)) n ⌝ }
 {
-    let one = put(out, at, records::set_word(Operand::D(r), v % 0x100));
-    let two = put_byte(out, one, r, v / 0x100, 0x100);
-    let three = put_byte(out, two, r, v / 0x1_0000, 0x1_0000);
-    put_byte(out, three, r, v / 0x100_0000, 0x100_0000)
+    let one = put_place(out, at, (v % 0x100) as u16, false, r);
+    let two = put_byte(out, one, r, v / 0x100, 1);
+    let three = put_byte(out, two, r, v / 0x1_0000, 2);
+    put_byte(out, three, r, v / 0x100_0000, 3)
 }
 
-// The mask, and the high word by it.
+// The mask of a low word, in D30, and the high word by it.
 fn put_joined(out: &mut [u16], at: usize, r: u8) -> usize
-    requires { ⌜ at < 2 ^ 31 ⌝ }
+    requires { ⌜ (at < 2 ^ 31) × (r < 32) ⌝ }
     ensures { λ n. ⌜ Placed 4 (now (out .entry)) at (halfwordsOf (joinPairs r)) (now (out .exit)) n ⌝ }
 {
-    let next = put(out, at, records::set_mask());
+    let next = put_place(out, at, LOW_WORD, false, 30);
     put(out, next, records::join_words(r))
 }
 
 // 64 bits in a D register, by their recipe.
 fn put_half(out: &mut [u16], at: usize, r: u8, v: u64) -> usize
-    requires { ⌜ at < 2 ^ 30 ⌝ }
+    requires { ⌜ (at < 2 ^ 30) × (r < 32) ⌝ }
     ensures { λ n. ⌜ Placed 20 (now (out .entry)) at (halfwordsOf (halfPairs r v)) (now (out .exit)) n ⌝ }
 {
     let half = recipe_of(v);
     match half {
+        Recipe::One(t) => put_place(out, at, t, false, r),
         Recipe::Twice(word) => put_word(out, at, r, word),
         Recipe::Joined(low, high) => {
             let one = put_word(out, at, r, low);
@@ -111,7 +135,7 @@ fn put_not(out: &mut [u16], at: usize, s: Step) -> usize
     requires { ⌜ at < 2 ^ 29 ⌝ }
     ensures { λ n. ⌜ Placed 4 (now (out .entry)) at (halfwordsOf (pairsBy 8 s)) (now (out .exit)) n ⌝ }
 {
-    let next = put(out, at, records::set_word(Operand::Q(14), 0));
+    let next = put_place(out, at, ZERO, true, 28);
     put(out, next, records::invert(s.target, s.a))
 }
 

@@ -1,3 +1,4 @@
 pub mod Immediates
 pub mod Promises
+pub mod Offsets
 pub mod Own

@@ -8,7 +8,8 @@ ghost use Rattle.names.specs.Names.{nameOf};
 ghost use Rattle.fields.specs.Halfwords.{bit, field};
 ghost use Rattle.writings.specs.Answers.{wideFieldAnswer};
 ghost use Rattle.immediate_values.specs.Immediates.{sameValue, immediateReads, immediateOf, immediateIn};
-ghost use Rattle.immediate_values.specs.Own.{twoBits, fourBits, byteBits, halfwordOffset, wordOffset, OnlyPlace};
+ghost use Rattle.immediate_values.specs.Offsets.{twoBits, fourBits, byteBits, halfwordOffset, wordOffset};
+ghost use Rattle.immediate_values.specs.Own.{OnlyPlace};
 use floats::FloatFound;
 use homes::Home;
 use insn::Operand;
@@ -34,14 +35,14 @@ fn four_bits(p: u64) -> u16
     two_bits(p) + two_bits(p / 0x1_0000) * 4
 }
 
-fn byte_bits(p: u64) -> u16
+pub fn byte_bits(p: u64) -> u16
     ensures { λ r. ⌜ (r ≡ byteBits p) × (r < 256) ⌝ }
 {
     four_bits(p) + four_bits(p / 0x1_0000_0000) * 16
 }
 
 // Where a 16-bit pattern would stand, from a name's first place on: imm8 as it is, or shifted by 8.
-fn halfword_offset(p: u64) -> u16
+pub fn halfword_offset(p: u64) -> u16
     ensures { λ r. ⌜ (r ≡ halfwordOffset p) × (r < 0x300) ⌝ }
 {
     if p < 0x100 {
@@ -51,7 +52,7 @@ fn halfword_offset(p: u64) -> u16
 }
 
 // Where a 32-bit pattern would stand: imm8 as it is, or shifted by 8, 16 or 24, or by 8 or 16 with ones below it.
-fn word_offset(p: u64) -> u16
+pub fn word_offset(p: u64) -> u16
     ensures { λ r. ⌜ (r ≡ wordOffset p) × (r < 0xe00) ⌝ }
 {
     if p < 0x100 {

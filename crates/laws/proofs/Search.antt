@@ -2,7 +2,6 @@
 -- Assumes nothing.
 use mathlib.Core.Path.{_≡_, refl, sym, ap, _∙_, subst}
 use mathlib.Core.Bool.{Bool, true, false}
-use mathlib.Core.Logic.{_≢_}
 use Prim.Native.Nat.{ℕ, zero, suc, _+_, _<_, _≤_}
 use native.Mathlib.Omega.{arith}
 use lib.Dec.{T, eqb}
@@ -24,18 +23,44 @@ hit-from p i (suc n) t e = go (p i) refl e (hit-from p (suc i) n t)
 pub hit : (p : ℕ → Bool) (n t : ℕ) → firstBelow n p ≡ at t → (p t ≡ true) × (t < n)
 hit p n t e = let h = hit-from p 0 n t e in (h .0, omega arith)
 
-only-from : (p : ℕ → Bool) (t m : ℕ) → ((u : ℕ) → u < m → p u ≡ true → u ≡ t) → p t ≡ true → (i n : ℕ) → i ≤ t → t < i + n → i + n ≤ m → firstFrom p i n ≡ at t
+-- what was found is the lowest that passes
+least-from : (p : ℕ → Bool) (i n t : ℕ) → firstFrom p i n ≡ at t → (u : ℕ) → i ≤ u → u < t → p u ≡ false
 unfolding firstFrom
-only-from p t m one passes i zero lo hi en = absurd (let z : ⊥ = omega arith in z)
-only-from p t m one passes i (suc n) lo hi en = go (p i) refl (λ l. only-from p t m one passes (suc i) n l (omega arith) (omega arith))
+least-from p i zero t e u lo hi = never (cc)
+least-from p i (suc n) t e u lo hi = go (p i) refl e (λ f l. least-from p (suc i) n t f u l hi)
   where
-    go : (b : Bool) → p i ≡ b → (suc i ≤ t → firstFrom p (suc i) n ≡ at t) → choose b (at i) (firstFrom p (suc i) n) ≡ at t
-    go true e r = ap at (one i (omega arith) e)
-    go false e r = let ne : i ≢ t = λ q. subst T (sym passes ∙ sym (ap p q) ∙ e) tt in r (omega arith)
+    go : (b : Bool) → p i ≡ b → choose b (at i) (firstFrom p (suc i) n) ≡ at t → (firstFrom p (suc i) n ≡ at t → suc i ≤ u → p u ≡ false) → p u ≡ false
+    go true y f r = let k : i ≡ t = cc in absurd (let z : ⊥ = omega arith in z)
+    go false y f r = place (eqb i u) refl
+      where
+        place : (b : Bool) → eqb i u ≡ b → p u ≡ false
+        place true s = sym (ap p (eqb-true i u s)) ∙ y
+        place false s = let ne = eqb-false i u s in r f (omega arith)
+
+pub least : (p : ℕ → Bool) (n t : ℕ) → firstBelow n p ≡ at t → (u : ℕ) → u < t → p u ≡ false
+least p n t e u h = least-from p 0 n t e u (omega arith) h
+
+found-from : (p : ℕ → Bool) (t : ℕ) → p t ≡ true → ((u : ℕ) → u < t → p u ≡ false) → (i n : ℕ) → i ≤ t → t < i + n → firstFrom p i n ≡ at t
+unfolding firstFrom
+found-from p t passes below i zero lo hi = absurd (let z : ⊥ = omega arith in z)
+found-from p t passes below i (suc n) lo hi = go (eqb i t) refl (λ l. found-from p t passes below (suc i) n l (omega arith))
+  where
+    go : (b : Bool) → eqb i t ≡ b → (suc i ≤ t → firstFrom p (suc i) n ≡ at t) → choose (p i) (at i) (firstFrom p (suc i) n) ≡ at t
+    go true e r = let k : i ≡ t = eqb-true i t e in rw (ap p k ∙ passes) (ap at k)
+    go false e r = let ne = eqb-false i t e in rw (below i (omega arith)) (r (omega arith))
+
+-- a number that passes, where none below does, is found
+pub found : (p : ℕ → Bool) (n t : ℕ) → t < n → p t ≡ true → ((u : ℕ) → u < t → p u ≡ false) → firstBelow n p ≡ at t
+found p n t h passes below = found-from p t passes below 0 n (omega arith) (omega arith)
+
+-- a test that cannot hold
+fails : (b : Bool) → (b ≡ true → ⊥) → b ≡ false
+fails true never-so = absurd (never-so refl)
+fails false never-so = refl
 
 -- a number that passes, where no other does, is found
 pub only : (p : ℕ → Bool) (n t : ℕ) → ((u : ℕ) → u < n → p u ≡ true → u ≡ t) → t < n → p t ≡ true → firstBelow n p ≡ at t
-only p n t one h passes = only-from p t n one passes 0 n (omega arith) (omega arith) (omega arith)
+only p n t one h passes = found p n t h passes (λ u l. fails (p u) (λ e. let same = one u (omega arith) e in let z : ⊥ = omega arith in z))
 
 none-from : (p : ℕ → Bool) (m : ℕ) → ((u : ℕ) → u < m → p u ≡ false) → (i n : ℕ) → i + n ≤ m → firstFrom p i n ≡ none
 unfolding firstFrom
@@ -63,14 +88,14 @@ none-here p i (suc n) u e lo hi = go (p i) refl e (λ f l. none-here p (suc i) n
 pub all-fail : (p : ℕ → Bool) (n : ℕ) → firstBelow n p ≡ none → (u : ℕ) → u < n → p u ≡ false
 all-fail p n e u h = none-here p 0 n u e (omega arith) (omega arith)
 
--- compute the one number that could pass, and test it alone
-pub candidate : (p : ℕ → Bool) (n g : ℕ) → g < n → ((u : ℕ) → u < n → p u ≡ true → u ≡ g) → firstBelow n p ≡ choose (p g) (at g) none
-candidate p n g h one = go (p g) refl
+-- compute a number that passes if any does, and is no higher; and test it alone
+pub lowest : (p : ℕ → Bool) (n g : ℕ) → g < n → ((u : ℕ) → u < n → p u ≡ true → (g ≤ u) × (p g ≡ true)) → firstBelow n p ≡ choose (p g) (at g) none
+lowest p n g h covers = go (p g) refl
   where
     go : (b : Bool) → p g ≡ b → firstBelow n p ≡ choose b (at g) none
-    go true e = only p n g one h e
-    go false e = nothing p n (λ u l. other u l (p u) refl)
-      where
-        other : (u : ℕ) → u < n → (c : Bool) → p u ≡ c → p u ≡ false
-        other u l true k = absurd (subst T (sym k ∙ ap p (one u l k) ∙ e) tt)
-        other u l false k = k
+    go true e = found p n g h e (λ u l. fails (p u) (λ y. let k = covers u (omega arith) y .0 in let z : ⊥ = omega arith in z))
+    go false e = nothing p n (λ u l. fails (p u) (λ y. subst T (sym (covers u l y .1) ∙ e) tt))
+
+-- compute the one number that could pass, and test it alone
+pub candidate : (p : ℕ → Bool) (n g : ℕ) → g < n → ((u : ℕ) → u < n → p u ≡ true → u ≡ g) → firstBelow n p ≡ choose (p g) (at g) none
+candidate p n g h one = lowest p n g h (λ u l y. let same = one u l y in (omega arith, ap p (sym same) ∙ y))

@@ -34,6 +34,7 @@ fn of_half(v: u64) -> u64
 {
     let half = recipe_of(v);
     match half {
+        Recipe::One(_) => 1,
         Recipe::Twice(word) => of_word(word),
         Recipe::Joined(low, high) => of_word(low) + of_word(high) + 2,
     }

@@ -1,4 +1,4 @@
--- The numbers that a sheet's pairs carry: each amount and each byte has a place in its pair.
+-- The amounts that a sheet's pairs carry: each has a place in its pair.
 -- Assumes nothing.
 use mathlib.Core.Path.{_≡_, refl, sym, _∙_, subst}
 use mathlib.Core.Bool.{Bool, true, false}
@@ -69,45 +69,3 @@ right-carried c (suc k) hc p hk =
     let small = at-most-64 {s = c} (omega arith) in
     finds (λ (t : ℕ). shift.amountReads Right c (pos (suc k)) (bit 6 t) (field 5 0 t)) 128 (2 * bitsAt c - suc k) (omega arith)
     (rw (lt-ltb k (bitsAt c) hk) at (right-read c k hc (omega arith)))
-
--- an immediate that one place carries
-module _ (name : String) (v t : ℕ) (integer : eqt name "vmov.f32" ≡ false) (h : t < 8192)
-    (reads : modified.immediateReads name (Imm (pos v)) (bit 12 t) (field 11 8 t) (field 7 0 t) ≡ true) where
-  number-carried : (u : ℕ) × (immediateIn name (Imm (pos v)) ≡ accepted u)
-  unfolding immediateIn
-  number-carried =
-      let f = finds (λ (t : ℕ). modified.immediateReads name (Imm (pos v)) (bit 12 t) (field 11 8 t) (field 7 0 t)) 8192 t h reads in
-      (f .0, rw integer (f .1))
-
--- VMOV.I32 of a byte stands at op 0, cmode 0000
-abbrev setAt : ℕ → Bool
-setAt b = modified.immediateReads "vmov.i32" (Imm (pos b)) (bit 12 b) (field 11 8 b) (field 7 0 b)
-
-set-read : (b : ℕ) → b < 256 → setAt b ≡ true
-unfolding values modified.immediateReads modimm constantAt element operandIn needsNonzero
-set-read = agree setAt (λ (b : ℕ). true) 256 refl
-
-pub set-carried : (b : ℕ) → b < 256 → (t : ℕ) × (immediateIn "vmov.i32" (Imm (pos b)) ≡ accepted t)
-set-carried b h = number-carried "vmov.i32" b b refl (omega arith) (set-read b h)
-
--- VORR.I32 of a byte at bitsAt 8k, not 0, stands at op 0, cmode 0kk1
-abbrev joinPlace : ℕ → ℕ → ℕ
-joinPlace k b = (2 * k + 1) * 256 + b
-
-abbrev joinAt : ℕ → ℕ → Bool
-joinAt k b =
-    choose (eqb b 0) true
-    (modified.immediateReads "vorr.i32" (Imm (pos (b * 2 ^ (8 * k)))) (bit 12 (joinPlace k b)) (field 11 8 (joinPlace k b)) (field 7 0 (joinPlace k b)))
-
-join-read : (k b : ℕ) → k < 4 → b < 256 → joinAt k b ≡ true
-unfolding values modified.immediateReads modimm constantAt element operandIn needsNonzero
-join-read = agree2 joinAt (λ (k b : ℕ). true) 4 256 refl
-
-pub join-carried : (k b : ℕ) → k < 4 → b < 256 → b ≢ 0 → (t : ℕ) × (immediateIn "vorr.i32" (Imm (pos (b * 2 ^ (8 * k)))) ≡ accepted t)
-join-carried k b hk hb n =
-    number-carried "vorr.i32" (b * 2 ^ (8 * k)) (joinPlace k b) refl (omega arith) (rw (ne-eqb b 0 n) at (join-read k b hk hb))
-
--- VMOV.I64 of the mask stands at op 1, cmode 1110
-pub mask-carried : (t : ℕ) × (immediateIn "vmov.i64" (Imm (pos 4294967295)) ≡ accepted t)
-unfolding modified.immediateReads modimm constantAt element operandIn needsNonzero twosComplement
-mask-carried = number-carried "vmov.i64" 4294967295 7695 refl (omega arith) refl

@@ -1,25 +1,28 @@
 -- A constant's pairs are written, and at most ten a half.
 -- Assumes nothing.
-use mathlib.Core.Path.{_≡_, refl, _∙_, ap}
+use mathlib.Core.Path.{_≡_, refl, sym, _∙_, subst}
 use mathlib.Core.Bool.{Bool, true, false}
-use mathlib.Core.Logic.{_≢_}
 use mathlib.Core.List.{[], _∷_, _++_}
 use Prim.Native.Nat.{ℕ, _*_, _/_, _%_, _^_, _≤_, _<_}
-use native.Mathlib.Nat.{zero-mul}
 use native.Mathlib.Omega.{arith}
 use lib.Dec.{eqb, lit<}
 use lib.ListN.{length, length-append}
 use borrow.Author.Tests.{eqb-false}
 use Rattle.laws.specs.Choice.{choose}
+use Rattle.insn.specs.declared.Insn.{Insn}
 use Rattle.insn.specs.declared.Operand.the-variants.{D}
 use Rattle.recipes.specs.declared.Recipe.{Recipe}
-use Rattle.recipes.specs.declared.Recipe.the-variants.{Twice, Joined}
-use Rattle.recipes.specs.Pairs.{immediate, byteOf, addByte, wordPairs, joinPairs, recipeOf, recipePairs, halfPairs, twoOf}
-use Rattle.recipes.proofs.Carried.{set-carried, join-carried, mask-carried}
-use Rattle.recipes.proofs.Names.{bif-known, set-word-known, join-word-known, set-long-known}
-use Rattle.recipes.proofs.Writes.{Written, double-is, three-writes, number-writes, written-append}
+use Rattle.recipes.specs.declared.Recipe.the-variants.{One, Twice, Joined}
+use Rattle.recipes.specs.Pairs.{immediate, byteOf, addByte, wordPairs, joinPairs, recipeOf, recordAt, recipePairs, halfPairs, twoOf}
+use Rattle.recipes.proofs.Names.{bif-known}
+use Rattle.recipes.proofs.Places.{Read, placed, double-register, set-record, set-read, zero-byte, join-record, join-read, mask-record, mask-read, one-leaves, leaves-read, one-of}
+use Rattle.recipes.proofs.Writes.{Writes, Written, double-is, three-writes, written-append}
 
 module _ (r : ℕ) (hr : r < 32) where
+  -- a record that is a place's
+  at-place : (i : Insn) (t : ℕ) → recordAt (D r) t ≡ i → Read t → Writes i
+  at-place i t e p = subst Writes e (placed (double-register r hr) p)
+
   add-written : (b k : ℕ) → b < 256 → k < 4 → Written (addByte r (b * 2 ^ (8 * k)))
   unfolding addByte
   add-written b k hb hk = go (eqb (b * 2 ^ (8 * k)) 0) refl
@@ -29,34 +32,35 @@ module _ (r : ℕ) (hr : r < 32) where
 
       go : (t : Bool) → eqb byte 0 ≡ t → Written (choose t [] (twoOf "vorr.i32" (D r) (immediate byte) ∷ []))
       go true e = tt
-      go false e =
-          let n : b ≢ 0 = λ z. eqb-false byte 0 e (ap (λ (b : ℕ). b * 2 ^ (8 * k)) z ∙ zero-mul (2 ^ (8 * k))) in
-          let c = join-carried k b hk hb n in
-          (number-writes byte (c .0) (double-is r hr) join-word-known (c .1), tt)
+      go false e = (at-place _ _ (join-record k b hk hb (D r)) (join-read k b hk hb (eqb-false b 0 (sym (zero-byte k b hk hb) ∙ e))), tt)
 
   word-written : (v : ℕ) → Written (wordPairs r v)
   unfolding wordPairs
   word-written v =
-      let c = set-carried (v % 256) (omega arith) in (
-        number-writes (v % 256) (c .0) (double-is r hr) set-word-known (c .1),
+      let small : v % 256 < 256 = omega arith in (
+        at-place _ _ (set-record (v % 256) small (D r)) (set-read (v % 256) small),
         written-append (addByte r (byteOf v 1)) (addByte r (byteOf v 2) ++ addByte r (byteOf v 3)) (add-written (v / 2 ^ 8 % 256) 1 (omega arith) (omega arith))
             (written-append (addByte r (byteOf v 2)) (addByte r (byteOf v 3)) (add-written (v / 2 ^ 16 % 256) 2 (omega arith) (omega arith))
             (add-written (v / 2 ^ 24 % 256) 3 (omega arith) (omega arith))),
       )
 
-  join-written : Written (joinPairs r)
-  unfolding joinPairs
-  join-written = (
-    number-writes 4294967295 (mask-carried .0) (double-is 30 (lit< tt)) set-long-known (mask-carried .1),
-    (three-writes (double-is r hr) (double-is 28 (lit< tt)) (double-is 30 (lit< tt)) bif-known, tt),
-  )
+join-written : (r : ℕ) → r < 32 → Written (joinPairs r)
+unfolding joinPairs
+join-written r hr = (
+  at-place 30 (lit< tt) _ _ (mask-record (D 30)) mask-read,
+  (three-writes (double-is r hr) (double-is 28 (lit< tt)) (double-is 30 (lit< tt)) bif-known, tt),
+)
 
-pub recipe-written : (r : ℕ) → r < 32 → (h : Recipe) → Written (recipePairs r h)
+pub half-written : (r : ℕ) → r < 32 → (v : ℕ) → Written (halfPairs r v)
 unfolding recipePairs
-recipe-written r hr (Twice v) = word-written r hr v
-recipe-written r hr (Joined low high) =
-    written-append (wordPairs r low) (wordPairs 28 high ++ joinPairs r) (word-written r hr low)
-    (written-append (wordPairs 28 high) (joinPairs r) (word-written 28 (lit< tt) high) (join-written r hr))
+half-written r hr v = go (recipeOf v) refl
+  where
+    go : (h : Recipe) → recipeOf v ≡ h → Written (recipePairs r h)
+    go (One t) e = let o = one-leaves v t (one-of v t e) in (placed (double-register r hr) (leaves-read v t (o .1) (o .0)), tt)
+    go (Twice w) e = word-written r hr w
+    go (Joined low high) e =
+        written-append (wordPairs r low) (wordPairs 28 high ++ joinPairs r) (word-written r hr low)
+        (written-append (wordPairs 28 high) (joinPairs r) (word-written 28 (lit< tt) high) (join-written r hr))
 
 add-few : (r byte : ℕ) → length (addByte r byte) ≤ 1
 unfolding addByte
@@ -72,6 +76,7 @@ word-few r v = simp length-append (omega (arith, add-few r (byteOf v 1), add-few
 
 recipe-few : (r : ℕ) (h : Recipe) → length (recipePairs r h) ≤ 10
 unfolding recipePairs joinPairs
+recipe-few r (One t) = omega arith
 recipe-few r (Twice v) = omega (arith, word-few r v)
 recipe-few r (Joined low high) = simp length-append (omega (arith, word-few r low, word-few 28 high))
 

@@ -82,10 +82,7 @@ computed :
     ∷ seen-one "vorn"  -- 15
     ∷ seen-one "vbsl"  -- 16
     ∷ seen-one "vbif"  -- 17
-    ∷ seen-one "vmov.i32"  -- 18
-    ∷ seen-one "vorr.i32"  -- 19
-    ∷ seen-one "vmov.i64"  -- 20
-    ∷ seen-one "vmov"  -- 21
+    ∷ seen-one "vmov"  -- 18
     ∷ [])
     (said Same3 "vadd.i" 4 55 64
     ∷ said Same3 "vsub.i" 4 145 192
@@ -105,9 +102,6 @@ computed :
     ∷ said-one "vorn" 13 (Same3 15)
     ∷ said-one "vbsl" 101 (Same3 141)
     ∷ said-one "vbif" 103 (Same3 143)
-    ∷ said-one "vmov.i32" 261 (Modimm 0)
-    ∷ said-one "vorr.i32" 262 (Modimm 1)
-    ∷ said-one "vmov.i64" 271 (Modimm 30)
     ∷ said-one "vmov" 345 Vmov
     ∷ [])
 unfolding values names nameOf numberOf homes pairwise
@@ -182,17 +176,8 @@ bsl-known = alone "vbsl" 101 (Same3 141) (ap (row 16) computed)
 pub bif-known : Known false "vbif" 103 (Same3 143)
 bif-known = alone "vbif" 103 (Same3 143) (ap (row 17) computed)
 
-pub set-word-known : Known false "vmov.i32" 261 (Modimm 0)
-set-word-known = alone "vmov.i32" 261 (Modimm 0) (ap (row 18) computed)
-
-pub join-word-known : Known false "vorr.i32" 262 (Modimm 1)
-join-word-known = alone "vorr.i32" 262 (Modimm 1) (ap (row 19) computed)
-
-pub set-long-known : Known false "vmov.i64" 271 (Modimm 30)
-set-long-known = alone "vmov.i64" 271 (Modimm 30) (ap (row 20) computed)
-
 pub copy-known : Known false "vmov" 345 Vmov
-copy-known = alone "vmov" 345 Vmov (ap (row 21) computed)
+copy-known = alone "vmov" 345 Vmov (ap (row 18) computed)
 
 -- the class and the column of a shift's cell
 pub record Classed (class : ShiftClass) (column cell : ℕ) : Type 0 where

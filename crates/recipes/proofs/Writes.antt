@@ -15,15 +15,13 @@ use Rattle.insn.specs.declared.Insn.{Insn}
 use Rattle.insn.specs.declared.Operand.{Operand}
 use Rattle.insn.specs.declared.Operand.the-variants.{D, Q, Imm}
 use Rattle.insn.specs.Record.{placeAt}
-use Rattle.homes.specs.declared.Home.the-variants.{Same3, Shift, Modimm}
+use Rattle.homes.specs.declared.Home.the-variants.{Same3, Shift}
 use Rattle.tables.specs.declared.ShiftClass.{ShiftClass}
 use Rattle.names.specs.Names.{pairwise}
 use Rattle.fields.specs.Halfwords.{field}
 use Rattle.fields.specs.Registers.{vecBits}
 use Rattle.read_registers.specs.Same3.{shiftsByRegister}
 use Rattle.writings.specs.Forms.{Pair, pair, isQuad, isNumber, registerIn, allThree}
-use Rattle.write_immediates.specs.Modimm.{modimmPair, modimmWriting}
-use Rattle.immediate_values.specs.Immediates.{immediateIn}
 use Rattle.write_registers.specs.Same3.{same3Pair, same3Form, same3Writing, vorrCell, vmovWriting}
 use Rattle.write_immediates.specs.Shift.{bitB, shiftPair, shiftClassed}
 use Rattle.amount_values.specs.Amounts.{amountIn}
@@ -38,7 +36,7 @@ pub record Writes (i : Insn) : Type 0 where
   pub hw2 : ℕ
   pub wrote : writing i ≡ accepted (pair hw1 hw2)
 
-wrote-as : (i : Insn) (p : Pair) → writing i ≡ accepted p → Writes i
+pub wrote-as : (i : Insn) (p : Pair) → writing i ≡ accepted p → Writes i
 wrote-as i (pair a b) e = record { hw1 = a; hw2 = b; wrote = e }
 
 -- an operand that is register number d
@@ -85,13 +83,6 @@ unfolding writing shiftClassed allThree placeAt
 shift-writes {q} {x} {y} {d} {n} {name} {class} {number} {column} {cell} k amount ix iy known classed same found =
     wrote-as (threeOf name x y (Imm (pos k))) (shiftPair cell (bitB class q cell) amount d n)
     (rw (known .back, known .placed, classed .class-of, classed .column-of, ix .length, same q .0, same q .1, ix .place, iy .place, found))
-
--- a modified immediate
-pub number-writes : {q : Bool} {x : Operand} {d : ℕ} {name : String} {number cell : ℕ} (v place : ℕ)
-    → Is q x d → Known false name number (Modimm cell) → immediateIn name (Imm (pos v)) ≡ accepted place → Writes (twoOf name x (Imm (pos v)))
-unfolding writing modimmWriting placeAt
-number-writes {q} {x} {d} {name} v place ix known found =
-    wrote-as (twoOf name x (Imm (pos v))) (modimmPair place q d) (rw (known .back, known .placed, ix .length, ix .place, found))
 
 -- records that are all written
 abbrev pub Written : List Insn → Type 0

@@ -1,4 +1,4 @@
--- The pairs that each step is translated to, as records: document 01, 'Sum sheet'.
+-- The pairs that each step is translated to, as records: document 01, 'Sum sheet', and document 02, F-10.
 -- Assumes nothing.
 use mathlib.Core.List.{List, [], _∷_, _++_}
 use Prim.Native.Nat.{ℕ, _+_, _*_, _/_, _%_, _^_}
@@ -8,17 +8,23 @@ use lib.IntN.{pos}
 use lib.ListN.{getD}
 use Rattle.laws.specs.Answer.{Answer, accepted, refused}
 use Rattle.laws.specs.Choice.{choose}
+use Rattle.laws.specs.Search.{Found, at, none}
 use Rattle.insn.specs.declared.Insn.{Insn}
 use Rattle.insn.specs.declared.Mark.the-variants.{T1}
 use Rattle.insn.specs.declared.Operand.{Operand}
 use Rattle.insn.specs.declared.Operand.the-variants.{D, Q, Imm, Absent}
 use Rattle.names.specs.Names.{numberOf}
+use Rattle.tables.specs.Cells.{cellAt}
+use Rattle.immediate_tables.specs.Modimm.{modimm}
+use Rattle.fields.specs.Halfwords.{bit, field}
+use Rattle.immediates.specs.Modified.{modimmOperand}
 use Rattle.readings.specs.Operands.{insn}
 use Rattle.writings.specs.Forms.{Pair, pair}
 use Rattle.encode.specs.Writing.{writing}
 use Rattle.steps.specs.declared.Step.{Step}
+use Rattle.one_pair.specs.One.{oneFor}
 use Rattle.recipes.specs.declared.Recipe.{Recipe}
-use Rattle.recipes.specs.declared.Recipe.the-variants.{Twice, Joined}
+use Rattle.recipes.specs.declared.Recipe.the-variants.{One, Twice, Joined}
 use Rattle.recipes.specs.Naming.{signed, sized}
 
 -- a name with its operands; writing ignores the mark and the address
@@ -43,9 +49,21 @@ addByte r byte = choose (eqb byte 0) [] (twoOf "vorr.i32" (D r) (immediate byte)
 unfoldable pub wordPairs : ℕ → ℕ → List Insn
 wordPairs r v = twoOf "vmov.i32" (D r) (immediate (v % 256)) ∷ (addByte r (byteOf v 1) ++ (addByte r (byteOf v 2) ++ addByte r (byteOf v 3)))
 
--- a half of a constant: its two words agree, or they differ
+-- the longer recipe of a half of a constant: its two words agree, or they differ
+unfoldable pub byWords : ℕ → Recipe
+byWords v = choose (eqb (v % 2 ^ 32) (v / 2 ^ 32)) (Twice (v % 2 ^ 32)) (Joined (v % 2 ^ 32) (v / 2 ^ 32))
+
+abbrev pub recipeBy : Found → ℕ → Recipe
+recipeBy (at t) v = One t
+recipeBy none v = byWords v
+
+-- the recipe of a half: the lowest place of one pair that leaves it, and by words only if there is none
 unfoldable pub recipeOf : ℕ → Recipe
-recipeOf v = choose (eqb (v % 2 ^ 32) (v / 2 ^ 32)) (Twice (v % 2 ^ 32)) (Joined (v % 2 ^ 32) (v / 2 ^ 32))
+recipeOf v = recipeBy (oneFor v) v
+
+-- the record that the place op:cmode:imm8 is read as, with a register
+abbrev pub recordAt : Operand → ℕ → Insn
+recordAt x t = twoOf (cellAt modimm (bit 12 t) (field 11 8 t)) x (modimmOperand (bit 12 t) (field 11 8 t) (field 7 0 t))
 
 -- the high word of D28 joined to the low word of Dr, by a mask in D30
 unfoldable pub joinPairs : ℕ → List Insn
@@ -53,6 +71,7 @@ joinPairs r = twoOf "vmov.i64" (D 30) (immediate 4294967295) ∷ threeOf "vbif" 
 
 -- a half in Dr
 unfoldable pub recipePairs : ℕ → Recipe → List Insn
+recipePairs r (One t) = recordAt (D r) t ∷ []
 recipePairs r (Twice v) = wordPairs r v
 recipePairs r (Joined low high) = wordPairs r low ++ (wordPairs 28 high ++ joinPairs r)
 

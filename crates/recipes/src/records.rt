@@ -10,7 +10,7 @@ ghost use Rattle.laws.specs.Choice.{choose};
 ghost use Rattle.insn.specs.declared.Mark.the-variants.{T1};
 ghost use Rattle.insn.specs.declared.Operand.the-variants.{D, Q, Imm, Absent};
 ghost use Rattle.readings.specs.Operands.{insn as recordOf};
-ghost use Rattle.recipes.specs.Pairs.{immediate as immediateOf, pairsBy, twoOf, threeOf};
+ghost use Rattle.recipes.specs.Pairs.{pairsBy, twoOf, threeOf};
 ghost use Rattle.steps.specs.Rules.{keeps};
 use insn::Insn;
 use insn::Mark;
@@ -54,12 +54,6 @@ const VSHL: u16 = 189;
 
 const VSHR_U: u16 = 210;
 
-const VMOV_I32: u16 = 261;
-
-const VORR_I32: u16 = 262;
-
-const VMOV_I64: u16 = 271;
-
 // A mnemonic with two operands, and one with three.
 fn two(m: u16, x: Operand, y: Operand) -> Insn
     ensures { λ r. ⌜ r ≡ recordOf m T1 0 2 x y Absent ⌝ }
@@ -95,28 +89,7 @@ fn immediate(n: u32) -> Operand
     Operand::Imm(n as i64)
 }
 
-// A constant's 32 bits, in both words of a register.
-pub fn set_word(x: Operand, v: u32) -> Insn
-    ensures { λ r. ⌜ r ≡ twoOf "vmov.i32" x (immediateOf v) ⌝ }
-{
-    two(VMOV_I32, x, immediate(v))
-}
-
-// A byte joined to them, in its place.
-pub fn join_byte(r: u8, byte: u32) -> Insn
-    ensures { λ i. ⌜ i ≡ twoOf "vorr.i32" (D r) (immediateOf byte) ⌝ }
-{
-    two(VORR_I32, Operand::D(r), immediate(byte))
-}
-
-// The mask of a low word, in D30.
-pub fn set_mask() -> Insn
-    ensures { λ i. ⌜ i ≡ twoOf "vmov.i64" (D 30) (immediateOf 4294967295) ⌝ }
-{
-    two(VMOV_I64, Operand::D(30), immediate(0xffff_ffff))
-}
-
-// The high word of D28 joined to a low word, by that mask.
+// The high word of D28 joined to a low word, by the mask in D30.
 pub fn join_words(r: u8) -> Insn
     ensures { λ i. ⌜ i ≡ threeOf "vbif" (D r) (D 28) (D 30) ⌝ }
 {

@@ -14,31 +14,30 @@ use Rattle.insn.specs.declared.Operand.{Operand}
 use Rattle.insn.specs.declared.Operand.the-variants.{Q}
 use Rattle.homes.specs.declared.Home.the-variants.{Same3}
 use Rattle.lanes.specs.declared.LaneOp.the-variants.{Add, Sub, Mul, Max, Min, Cgt, Shl, Shr}
-use Rattle.insn.specs.declared.Width.the-variants.{B32}
 use Rattle.operations.specs.declared.BitOp.the-variants.{And, Orr, Eor, Orn, Mov, Bsl}
 use Rattle.operations.specs.declared.ConstantOp.the-variants as constant
 use Rattle.operations.specs.declared.Operation.{Operation}
 use Rattle.operations.specs.declared.Operation.the-variants.{Lanes, Bits, Constant}
 use Rattle.forms.specs.declared.Form.{Form}
 use Rattle.insn.specs.Widths.{widthAt}
-use Rattle.meanings.specs.Meaning.{Act, repeated, on, countOf, meaningIn}
+use Rattle.meanings.specs.Meaning.{Act, on, countOf, meaningIn}
 use Rattle.operations.specs.Operations.{Sized}
 use Rattle.marks.proofs.Quiet.{Quiet}
-use Rattle.meanings.proofs.Actions.{repeated-lt}
 use Rattle.steps.specs.declared.Step.{Step}
 use Rattle.steps.specs.Meaning.{signOf}
 use Rattle.recipes.specs.Naming.{sized, signed}
-use Rattle.recipes.specs.Pairs.{immediate, halfPairs, recipeOf, pairTable, pairsBy, twoOf, threeOf}
+use Rattle.recipes.specs.Pairs.{immediate, halfPairs, pairTable, pairsBy, twoOf, threeOf}
 use Rattle.steps.specs.Rules.{table, usesOf}
-use Rattle.recipes.proofs.Names.{Known, add-known, sub-known, mul-known, max-known, min-known, greater-known, and-known, orr-known, eor-known, orn-known, bsl-known, left-known, right-known, set-word-known, left-classed, right-classed}
+use Rattle.recipes.proofs.Names.{Known, add-known, sub-known, mul-known, max-known, min-known, greater-known, and-known, orr-known, eor-known, orn-known, bsl-known, left-known, right-known, left-classed, right-classed}
+use Rattle.recipes.proofs.Places.{scratch}
 use Rattle.insn.proofs.Sizes.{at-most-64}
-use Rattle.recipes.proofs.Carried.{left-carried, right-carried, set-carried}
-use Rattle.sheet.proofs.Constant.{halfActs, recipe-does}
+use Rattle.recipes.proofs.Carried.{left-carried, right-carried}
+use Rattle.sheet.proofs.Constant.{halfActs, half-does, set-executes}
 use Rattle.sheet.proofs.Doing.{Does, does-append}
 use Rattle.steps.proofs.Each.{each}
-use Rattle.sheet.proofs.Executes.{Stands, quad-stands, Means, three-executes, copy-executes, shift-executes, number-executes}
+use Rattle.sheet.proofs.Executes.{Stands, quad-stands, Means, three-executes, copy-executes, shift-executes}
 use Rattle.steps.proofs.Kept.{Kept}
-use Rattle.sheet.proofs.Names.{add-means, sub-means, mul-means, max-means, min-means, greater-means, and-means, orr-means, eor-means, orn-means, bsl-means, left-means, right-means, set-word-means, copy-means}
+use Rattle.sheet.proofs.Names.{add-means, sub-means, mul-means, max-means, min-means, greater-means, and-means, orr-means, eor-means, orn-means, bsl-means, left-means, right-means, copy-means}
 use Rattle.sheet.proofs.Rows.{quad}
 
 -- the operations of a step of each kind
@@ -54,7 +53,7 @@ actTable s t a b c =
     ∷ (quad (Bits And) t a b ∷ [])  -- 5
     ∷ (quad (Bits Orr) t a b ∷ [])  -- 6
     ∷ (quad (Bits Eor) t a b ∷ [])  -- 7
-    ∷ (quad (Constant constant.Mov (repeated B32 0)) 14 14 14 ∷ quad (Bits Orn) t 14 a ∷ [])  -- 8
+    ∷ (quad (Constant constant.Mov 0) 14 14 14 ∷ quad (Bits Orn) t 14 a ∷ [])  -- 8
     ∷ (quad (Lanes (Shl (s .amount)) w) t a a ∷ [])  -- 9
     ∷ (choose (eqb (s .amount) 0) (quad (Bits Mov) t a a) (quad (Lanes (Shr sign (s .amount)) w) t a a) ∷ [])  -- 10
     ∷ (quad (Lanes (Max sign) w) t a b ∷ [])  -- 11
@@ -101,7 +100,7 @@ module _ (s : Step) where
   written = each Written 15 (
     (λ p. let h = p .target in
         does-append (halfPairs (2 * s .target) (s .low)) _ (halfActs (2 * s .target) (s .low)) _
-        (recipe-does (2 * s .target) (recipeOf (s .low)) (omega arith)) (recipe-does (2 * s .target + 1) (recipeOf (s .high)) (omega arith))),
+        (half-does (2 * s .target) (s .low) (omega arith)) (half-does (2 * s .target + 1) (s .high) (omega arith))),
     (
       (λ p. (copy-executes copy-means (reg _ (p .target)) (reg _ (p .a)), (tt, tt))),
       (
@@ -117,8 +116,7 @@ module _ (s : Step) where
                 (
                   (λ p. plain (Bits Eor) _ _ _ tt (λ z n m. refl) eor-known eor-means refl (λ a b c. refl) (p .target) (p .a) (p .b)),
                   (
-                    (λ p. let c = set-carried 0 (lit< tt) in
-                        (number-executes 0 (c .0) q14 set-word-known set-word-means refl (c .1), (repeated-lt B32 0, (three-executes (reg _ (p .target)) q14 (reg _ (p .a)) (Bits Orn) (λ z n m. refl) orn-known orn-means refl refl, (tt, tt))))),
+                    (λ p. (set-executes 0 (lit< tt) scratch, (lit< tt, (three-executes (reg _ (p .target)) q14 (reg _ (p .a)) (Bits Orn) (λ z n m. refl) orn-known orn-means refl refl, (tt, tt))))),
                     (
                       (λ p. let h = p .amount in
                           let small = at-most-64 {s = s .width} (omega (arith, p .width)) in

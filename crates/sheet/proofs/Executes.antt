@@ -2,62 +2,54 @@
 -- Assumes nothing.
 use mathlib.Core.Path.{_≡_, refl, ap, _∙_}
 use mathlib.Core.Bool.{Bool, true, false}
-use Prim.Native.Nat.{ℕ, _*_, _/_, _≤_, _<_}
+use Prim.Native.Nat.{ℕ, _*_, _≤_, _<_}
 use Prim.Native.String.{String}
 use lib.IntN.{pos}
 use lib.Text.{eqt}
 use borrow.Author.Tests.{lt-ltb, le-leb}
 use Rattle.laws.specs.Answer.{accepted}
-use Rattle.laws.specs.Choice.{either}
-use Rattle.laws.proofs.Some.{either-none}
 use Rattle.insn.specs.declared.Insn.{Insn}
 use Rattle.insn.specs.declared.Operand.{Operand}
 use Rattle.insn.specs.declared.Operand.the-variants.{D, Q, Imm, Absent}
 use Rattle.insn.specs.Record.{placeAt}
-use Rattle.homes.specs.declared.Home.the-variants.{Same3, Shift, Modimm}
+use Rattle.homes.specs.declared.Home.the-variants.{Same3, Shift}
 use Rattle.tables.specs.declared.ShiftClass.{ShiftClass}
 use Rattle.names.specs.Names.{numberOf}
 use Rattle.fields.specs.Registers.{bits, vecBits}
-use Rattle.laws.specs.Signed.{modulo}
-use Rattle.immediate_values.specs.Immediates.{immediateIn}
+use Rattle.fields.specs.Halfwords.{bit, field}
+use Rattle.immediates.specs.Modified.{expandImm}
 use Rattle.amount_values.specs.Amounts.{amountIn}
 use Rattle.trips.specs.Spelling.{Held, movedName}
 use Rattle.insn.specs.declared.Width.{Width}
 use Rattle.operations.specs.declared.BitOp.the-variants.{Mov}
 use Rattle.operations.specs.declared.ConstantOp.{ConstantOp}
 use Rattle.operations.specs.declared.Operation.{Operation}
-use Rattle.meanings.specs.declared.Registers.{Registers}
 use Rattle.marks.proofs.Quiet.{Quiet}
 use Rattle.operations.specs.declared.Operation.the-variants.{Bits as Bitwise, Constant}
 use Rattle.forms.specs.declared.Direction.{Direction}
 use Rattle.forms.specs.declared.Form.{Form}
 use Rattle.forms.specs.declared.Form.the-variants as form
-use Rattle.machine.specs.State.{State, state, acted}
+use Rattle.machine.specs.State.{State, state}
+use Rattle.machine.proofs.Unmarked.{quietly}
 use Rattle.forms.specs.Forms.{formOf}
-use Rattle.meanings.specs.Meaning.{Act, act, registers, on, wholePattern, repeated, shifting, countOf, meaningIn, meaningOf}
+use Rattle.meanings.specs.Meaning.{Act, act, registers, on, wholePattern, shifting, countOf, meaningIn, meaningOf}
 use Rattle.meanings.proofs.Actions.{on-alike}
 use Rattle.effects.specs.Effect.{effect}
 use Rattle.machine.specs.Step.{stepBy, stepPair}
-use Rattle.recipes.specs.Pairs.{twoOf, threeOf}
+use Rattle.recipes.specs.Pairs.{twoOf, threeOf, recordAt}
 use Rattle.recipes.proofs.Names.{Known, Classed, copy-known}
-use Rattle.recipes.proofs.Writes.{Writes, Is, quad-is, double-is, Alike, three-writes, copy-writes, shift-writes, number-writes}
+use Rattle.recipes.proofs.Writes.{Writes, Is, quad-is, double-is, Alike, three-writes, copy-writes, shift-writes}
+use Rattle.recipes.proofs.Places.{Read, Register, placed}
+use Rattle.read_meanings.specs.Constants.{opAt}
+use Rattle.halves.proofs.Places.{place-steps}
 use Rattle.sheet.proofs.Back.{three-back, two-back}
 use Rattle.laws.proofs.Signed.{modulo-pos}
-use Rattle.arithmetic.proofs.Numbers.{cut64}
-use Rattle.immediates.specs.Modified.{copies}
-use Rattle.insn.specs.Widths.{bitsOf}
-use Rattle.insn.proofs.Sizes.{bits-le}
 use native.Mathlib.Omega.{arith}
 
 -- a record is written as a pair, and the pair's step is the act's effect, with the mark as it was
 pub record Executes (i : Insn) (x : Act) : Type 0 where
   pub writes : Writes i
   pub stepped : (s : State) → stepPair (writes .hw1) (writes .hw2) s ≡ accepted (state (effect x (s .file)) (s .mark))
-
--- what an operation that moves no lane does to a state
-quietly : (op : Operation) (r : Registers) (s : State) → Quiet op → acted (act op r) s ≡ state (effect (act op r) (s .file)) (s .mark)
-unfolding acted
-quietly op r s quiet = ap (state (effect (act op r) (s .file))) (ap (either (s .mark)) (quiet _ _ _) ∙ either-none (s .mark))
 
 -- an operand that is register number d, written and read
 pub record Stands (quad : Bool) (x : Operand) (d : ℕ) : Type 0 where
@@ -120,21 +112,11 @@ shift-executes {q} {x} {y} {d} {n} {name} {class} {number} {column} {cell} {way}
           ∙ rw (known .back, means .formed, modulo-pos 64 k (omega arith), le-leb k 64 h, meant, acts op ix iy iy) (ap accepted (quietly op (registers q d n n) s quiet));
     }
 
--- a whole number's 64 bits are repeated as it is
-repeated-whole : (w : Width) (v : ℕ) → repeated w (modulo 64 (pos v)) ≡ repeated w v
-unfolding repeated modulo
-repeated-whole w v = ap (λ (p : ℕ). copies (64 / bitsOf w) (bitsOf w) p) (cut64 v (bitsOf w) (bits-le w))
-
--- a modified immediate
-pub number-executes : {q : Bool} {x : Operand} {d : ℕ} {name : String} {number cell : ℕ} {op : ConstantOp} {w : Width} (v place : ℕ)
-    → Stands q x d → Known false name number (Modimm cell) → Means name (form.Number op w) → eqt name "vorr" ≡ false → immediateIn name (Imm (pos v)) ≡ accepted place
-    → Executes (twoOf name x (Imm (pos v))) (act (Constant op (repeated w v)) (registers q d d d))
-unfolding placeAt meaningOf meaningIn wholePattern stepBy
-number-executes {q} {x} {d} {name} {number} {cell} {op} {w} v place ix known means other found =
-    let p = number-writes v place (ix .is) known found in
+-- a place op:cmode:imm8 that is read
+pub place-executes : {quad : Bool} {x : Operand} {d t : ℕ} (op : ConstantOp) (p : ℕ) → Register quad x d → Read t → opAt (bit 12 t) (field 11 8 t) ≡ op
+    → expandImm (bit 12 t) (field 11 8 t) (field 7 0 t) ≡ accepted p → Executes (recordAt x t) (act (Constant op p) (registers quad d d d))
+place-executes {quad} {x} {d} {t} op p i r same e =
     record {
-      writes = p;
-      stepped = λ s. two-back (numberOf name) x (Imm (pos v)) Absent (rw (known .back) (means .plain)) (p .hw1) (p .hw2) tt s (rw (known .back) other) (p .wrote)
-          ∙ rw (known .back, means .formed, repeated-whole w v, acts (Constant op (repeated w v)) ix ix ix)
-          (ap accepted (quietly (Constant op (repeated w v)) (registers q d d d) s (λ z n m. refl)));
+      writes = placed i r;
+      stepped = λ s. rw (← same) (place-steps i r p e (placed i r) s);
     }

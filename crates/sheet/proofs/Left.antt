@@ -22,24 +22,23 @@ use Rattle.laws.specs.Signed.{modulo}
 use Rattle.lanes.specs.declared.LaneOp.{LaneOp}
 use Rattle.lanes.specs.declared.LaneOp.the-variants.{Add, Sub, Mul, Max, Min, Cgt, Shl, Shr}
 use Rattle.insn.specs.declared.Sign.{Sign}
-use Rattle.insn.specs.declared.Width.the-variants.{B32}
 use Rattle.lanes.proofs.Lanewise.{same, kept}
 use Rattle.lanes.proofs.Promises.{readBack}
 use Rattle.operations.specs.declared.BitOp.the-variants.{And, Orr, Eor, Orn, Mov, Bsl}
 use Rattle.operations.specs.declared.ConstantOp.the-variants as constant
 use Rattle.operations.specs.declared.Operation.the-variants.{Lanes, Bits, Constant}
 use Rattle.effects.specs.File.{File, Good}
-use Rattle.meanings.specs.Meaning.{act, registers, repeated}
+use Rattle.meanings.specs.Meaning.{act, registers}
 use Rattle.operations.specs.Operations.{resultOf}
 use Rattle.effects.specs.Effect.{effect}
 use Rattle.effects.proofs.Effects.{effect-size}
 use Rattle.steps.specs.declared.Step.{Step}
 use Rattle.steps.specs.Meaning.{paired, rowsOf, rowAt, signOf, eachLane}
 use Rattle.steps.specs.Meaning as sheet
-use Rattle.recipes.specs.Pairs.{halfPairs, recipeOf}
+use Rattle.recipes.specs.Pairs.{halfPairs}
 use Rattle.steps.specs.Rules.{table, usesOf}
 use Rattle.sheet.proofs.ByKind.{actTable, actsBy}
-use Rattle.sheet.proofs.Constant.{halfActs, recipe-does, constant-left}
+use Rattle.sheet.proofs.Constant.{halfActs, half-does, constant-left}
 use Rattle.sheet.proofs.Doing.{doing, doing-cons, doing-nil, doing-good}
 use Rattle.steps.proofs.Each.{each}
 use Rattle.steps.proofs.Kept.{Kept}
@@ -109,12 +108,12 @@ module _ (s : Step) (file : File) (g : Good file) where
 
   -- Q14 set to 0, then VORN
   not-left : Claim 8
-  unfolding table actsBy actTable sheet.valueBy sheet.valueTable rowsOf resultOf repeated
+  unfolding table actsBy actTable sheet.valueBy sheet.valueTable rowsOf resultOf
   not-left p =
       let t = s .target in
       let ht = p .target in
       let ha = p .a in
-      let op = Constant constant.Mov (repeated B32 0) in
+      let op = Constant constant.Mov 0 in
       let f1 = effect (act op (registers true (2 * 14) (2 * 14) (2 * 14))) file in
       let z1 = effect-size (act op (registers true (2 * 14) (2 * 14) (2 * 14))) file ∙ g .size in
       let e1 : paired f1 ≡ set r0 14 0 = quad-row op 14 14 14 file (lit< tt) (lit< tt) (lit< tt) (g .size) in
@@ -181,7 +180,7 @@ module _ (s : Step) (file : File) (g : Good file) where
   left = each Claim 15 (
     (λ p. let h = p .target in
         constant-left file (s .target) (s .low) (s .high) (g .size)
-        (doing-good (halfPairs (2 * s .target) (s .low)) (halfActs (2 * s .target) (s .low)) file (recipe-does (2 * s .target) (recipeOf (s .low)) (omega arith)) g .size)
+        (doing-good (halfPairs (2 * s .target) (s .low)) (halfActs (2 * s .target) (s .low)) file (half-does (2 * s .target) (s .low) (omega arith)) g .size)
         (p .target) (p .low) (p .high)),
     (
       (λ p. one (Bits Mov) (s .target) (s .a) (s .a) file (p .target) (p .a) (p .a) (g .size)),

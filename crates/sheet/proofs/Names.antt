@@ -70,10 +70,7 @@ computed :
     ∷ seen-one "vorn"  -- 15
     ∷ seen-one "vbsl"  -- 16
     ∷ seen-one "vbif"  -- 17
-    ∷ seen-one "vmov.i32"  -- 18
-    ∷ seen-one "vorr.i32"  -- 19
-    ∷ seen-one "vmov.i64"  -- 20
-    ∷ seen-one "vmov"  -- 21
+    ∷ seen-one "vmov"  -- 18
     ∷ [])
     (said (form.Lanes Add) 4
     ∷ said (form.Lanes Sub) 4
@@ -93,9 +90,6 @@ computed :
     ∷ said-one (form.Bits bit.Orn)
     ∷ said-one (form.Bits bit.Bsl)
     ∷ said-one (form.Bits bit.Bif)
-    ∷ said-one (form.Number constant.Mov B32)
-    ∷ said-one (form.Number constant.Orr B32)
-    ∷ said-one (form.Number constant.Mov B64)
     ∷ said-one form.Copy
     ∷ [])
 unfolding values groups namedForms formOf
@@ -165,14 +159,5 @@ bsl-means = alone "vbsl" (form.Bits bit.Bsl) (ap (line 16) computed)
 pub bif-means : Means "vbif" (form.Bits bit.Bif)
 bif-means = alone "vbif" (form.Bits bit.Bif) (ap (line 17) computed)
 
-pub set-word-means : Means "vmov.i32" (form.Number constant.Mov B32)
-set-word-means = alone "vmov.i32" (form.Number constant.Mov B32) (ap (line 18) computed)
-
-pub join-word-means : Means "vorr.i32" (form.Number constant.Orr B32)
-join-word-means = alone "vorr.i32" (form.Number constant.Orr B32) (ap (line 19) computed)
-
-pub set-long-means : Means "vmov.i64" (form.Number constant.Mov B64)
-set-long-means = alone "vmov.i64" (form.Number constant.Mov B64) (ap (line 20) computed)
-
 pub copy-means : Means "vmov" form.Copy
-copy-means = alone "vmov" form.Copy (ap (line 21) computed)
+copy-means = alone "vmov" form.Copy (ap (line 18) computed)

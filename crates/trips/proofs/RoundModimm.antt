@@ -92,6 +92,17 @@ escaped y h = eq-eqb (y / 8 % 8) 0 (omega arith)
 imm8-sum : (t : ℕ) → bit 7 t * 128 + field 6 4 t * 16 + field 3 0 t ≡ field 7 0 t
 imm8-sum t = omega (arith, digit t 1 16, digit t 16 8)
 
+-- where the fields of a place stand in a pair
+pub record PairFields (hw1 hw2 t : ℕ) (quad : Bool) (d : ℕ) : Type 0 where
+  pub first-halfword : hw1 < 65536
+  pub second-halfword : hw2 < 65536
+  pub bits : ImmediateBits hw1 hw2 true
+  pub op-back : bit 5 hw2 ≡ op t
+  pub cmode-back : field 11 8 hw2 ≡ cmode t
+  pub imm8-back : imm8Of hw1 hw2 ≡ imm8 t
+  pub quad-back : isSet (bit 6 hw2) ≡ quad
+  pub its-register : dnumOf (bit 6 hw1) (field 15 12 hw2) ≡ d
+
 module _ (t d : ℕ) (quad : Bool) (ht : t < 8192) (hd : d < 32) where
   abbrev h1 : ℕ
   h1 = first (bit 7 t) 1 (bit 4 d) (field 6 4 t)
@@ -107,26 +118,34 @@ module _ (t d : ℕ) (quad : Bool) (ht : t < 8192) (hd : d < 32) where
       secondUnpacked (field 3 0 d) (field 11 8 t) 0 (asBit quad) (bit 12 t) 1 (field 3 0 t)
       (omega arith) (omega arith) (omega arith) (bit-small quad) (omega arith) (omega arith) (omega arith)
 
-  reads : (address : ℕ) → reading h1 h2 address ≡ modimmOf (op t) (cmode t) (imm8 t) quad d address
-  reads address =
-      fields h1 h2 address (op t) (cmode t) (imm8 t) d quad
-      (record {
-        top = f1 .top;
-        middle = f1 .middle;
-        a = f1 .a-back;
-        b4 = f2 .b4-back;
-        escapes = rw (f2 .b7-back, f1 .x-back) (escaped (field 6 4 t) (omega arith));
-      })
-      (f2 .b5-back)
-      (f2 .o-back)
-      (rw (f1 .u-back, lower-three h1 (field 6 4 t) (omega arith) (f1 .x-back), f2 .y-back) (imm8-sum t))
-      (rw (f2 .b6-back) (bit-set quad))
-      (rw (f1 .d-back, f2 .vd-back) (number-back d hd))
+  its-fields : PairFields h1 h2 t quad d
+  its-fields =
+      record {
+        first-halfword = f1 .halfword;
+        second-halfword = f2 .halfword;
+        bits =
+            record {
+              top = f1 .top;
+              middle = f1 .middle;
+              a = f1 .a-back;
+              b4 = f2 .b4-back;
+              escapes = rw (f2 .b7-back, f1 .x-back) (escaped (field 6 4 t) (omega arith));
+            };
+        op-back = f2 .b5-back;
+        cmode-back = f2 .o-back;
+        imm8-back = rw (f1 .u-back, lower-three h1 (field 6 4 t) (omega arith) (f1 .x-back), f2 .y-back) (imm8-sum t);
+        quad-back = rw (f2 .b6-back) (bit-set quad);
+        its-register = rw (f1 .d-back, f2 .vd-back) (number-back d hd);
+      }
 
-  pair-reads : (hw1 hw2 address : ℕ) → modimmPair t quad d ≡ pair hw1 hw2
-      → (reading hw1 hw2 address ≡ modimmOf (op t) (cmode t) (imm8 t) quad d address) × (hw1 < 65536) × (hw2 < 65536)
+  pub pair-fields : (hw1 hw2 : ℕ) → modimmPair t quad d ≡ pair hw1 hw2 → PairFields hw1 hw2 t quad d
   unfolding modimmPair
-  pair-reads hw1 hw2 address e = rw (← ap hw1Of e, ← ap hw2Of e) (reads address, f1 .halfword, f2 .halfword)
+  pair-fields hw1 hw2 e = rw (← ap hw1Of e, ← ap hw2Of e) its-fields
+
+  pub pair-reads : (hw1 hw2 address : ℕ) → modimmPair t quad d ≡ pair hw1 hw2 → reading hw1 hw2 address ≡ modimmOf (op t) (cmode t) (imm8 t) quad d address
+  pair-reads hw1 hw2 address e =
+      let f = pair-fields hw1 hw2 e in
+      fields hw1 hw2 address (op t) (cmode t) (imm8 t) d quad (f .bits) (f .op-back) (f .cmode-back) (f .imm8-back) (f .quad-back) (f .its-register)
 
 -- an immediate that was found
 record Carried (name : String) (value : Operand) (t : ℕ) : Type 0 where
@@ -191,15 +210,16 @@ modimm-back m k count a b c number hw1 hw2 address home absent held e =
     let v = carried (nameOf m) b t held (w .3) in
     let g = register-back (isQuad a) a d (w .2) in
     let r = pair-reads t d (isQuad a) (v .within) (g .1) hw1 hw2 address (w .4) in
+    let p = pair-fields t d (isQuad a) (v .within) (g .1) hw1 hw2 (w .4) in
     let st = modimm-stands number m k home in
     let filled = named m (st .known) in
     let names = other-names k (st .within) in
     let plain = as-spelt m count a b c (rw (← st .spelled, names .0)) (rw (← st .spelled, names .1)) in
     record {
-      first-halfword = r .1;
-      second-halfword = r .2;
+      first-halfword = p .first-halfword;
+      second-halfword = p .second-halfword;
       mark = T1;
-      read = rw (r .0, v .spelled, filled, v .zero, v .is, g .0, numbersBack m (st .known), plain, absent two, two);
+      read = rw (r, v .spelled, filled, v .zero, v .is, g .0, numbersBack m (st .known), plain, absent two, two);
     }
 
 -- read, then written
@@ -278,6 +298,14 @@ writes : (m k : ℕ) (mark : Mark) (address : ℕ) (quad : Bool) (d t : ℕ) (a 
 unfolding writing placeAt modimmWriting
 writes m k mark address quad d t a b hd ea home eb = rw (home, quad-of quad d a ea, register-forth quad d a hd ea, eb)
 
+-- a place that is read is written as its pair
+pub place-written : (t d : ℕ) (quad : Bool) (mark : Mark) (address : ℕ) (a : Operand) → t < 8192 → d < 32 → vecOf quad d ≡ accepted a
+    → eqt (cell16 modimm (t / 256)) "" ≡ false → both (eqb (imm8 t) 0) (needsNonzero (cmode t)) ≡ false
+    → writing (insn (numberOf (cell16 modimm (t / 256))) mark address 2 a (modimmOperand (op t) (cmode t) (imm8 t)) Absent) ≡ accepted (modimmPair t quad d)
+place-written t d quad mark address a ht hd ea filled zero =
+    writes (numberOf (cell16 modimm (t / 256))) (firstRow (t / 256)) mark address quad d t a (modimmOperand (op t) (cmode t) (imm8 t)) hd ea
+    (home t ht filled zero) (place-again t ht filled zero)
+
 written-again : (t d : ℕ) (quad : Bool) (address : ℕ) (i : Insn) (mark : Mark) (other : ℕ) (p : Pair) → t < 8192 → d < 32
     → modimmPair t quad d ≡ p → modimmOf (op t) (cmode t) (imm8 t) quad d address ≡ accepted i → writing (withMark i mark other) ≡ accepted p
 unfolding modimmOf
@@ -287,10 +315,7 @@ written-again t d quad address i mark other p ht hd ep e =
     let filled : eqt (cell16 modimm (t / 256)) "" ≡ false = rw (row-of t ht) at (p1 .0) in
     let r = two-operands (numberOf (cell16 modimm (t / 256))) T1 address _ _ i (rw (row-of t ht) at (p2 .1)) in
     let value : modimmOperand (op t) (cmode t) (imm8 t) ≡ r .b = cc (r .second) in
-    rw (← r .is)
-    (writes (numberOf (cell16 modimm (t / 256))) (firstRow (t / 256)) mark other quad d t (r .a) (r .b) hd (r .first) (home t ht filled (p2 .0))
-    (rw (← value) (place-again t ht filled (p2 .0)))
-    ∙ ap accepted ep)
+    rw (← r .is, ← value) (place-written t d quad mark other (r .a) ht hd (r .first) filled (p2 .0) ∙ ap accepted ep)
 
 -- a place, from its fields
 abbrev joined : ℕ → ℕ → ℕ → ℕ → ℕ → ℕ
@@ -334,7 +359,7 @@ module _ (hw1 hw2 : ℕ) (l1 : hw1 < 65536) (l2 : hw2 < 65536) (f : ImmediateBit
       let z = eqb-true (field 5 3 (field 5 0 hw1)) 0 (e .1) in
       (eqb-true (bit 7 hw2) 0 (e .0), omega arith)
 
-  packs : modimmPair t (isSet (bit 6 hw2)) (dOf hw1 hw2) ≡ pair hw1 hw2
+  pub packs : modimmPair t (isSet (bit 6 hw2)) (dOf hw1 hw2) ≡ pair hw1 hw2
   unfolding modimmPair
   packs =
       rw (

@@ -15,7 +15,7 @@ use writings::Writing;
 use writings::as_bit;
 
 // The pair of the place op:cmode:imm8 and the register D:Vd.
-fn modimm_pair(t: u16, quad: bool, d: u8) -> Writing
+pub fn modimm_pair(t: u16, quad: bool, d: u8) -> Writing
     ensures { λ r. ⌜ writingAnswer r ≡ accepted (modimmPair t quad d) ⌝ }
 {
     let cell = (t / 256) as u8;

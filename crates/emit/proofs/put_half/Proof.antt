@@ -1,25 +1,34 @@
 -- `emit::put_half` meets its contract.
 -- Assumes nothing.
-use mathlib.Core.Path.{sym, _∙_}
+use mathlib.Core.Path.{refl, sym, _∙_}
 use native.Mathlib.Omega.{arith}
 use borrow.Author.Needs.{needs}
 use Rattle.laws.proofs.Placed.{widen}
 use Rattle.recipes.specs.Pairs.{recipePairs}
-use Rattle.emit.proofs.Puts.{put-then}
+use Rattle.recipes.proofs.Places.{double-register, one-leaves, leaves-read, one-of}
+use Rattle.emit.proofs.Puts.{put-at, put-then}
 use Rattle.emit.proofs.put_half.Statement.{statement}
 use Rattle.emit.proofs.put_half.Tie as tie
 
 returns : tie.Need-returns
 unfolding recipePairs
 returns c =
+    let s = c .before .before .before .before .before .before .before .before .before in
     let e = sym (c .before .before .before .before .before .before .before .recipe-of .ensures) ∙ c .before .before .before .before .before .half .given .1 in
-    rw e (widen (omega arith) (c .before .before .put-word .ensures))
+    let o = one-leaves (s .args .v) _ (one-of (s .args .v) _ e) in
+    rw e (widen (omega arith) (put-at _ (double-register (s .args .r) (s .pre .1)) (leaves-read (s .args .v) _ (o .1) (o .0)) refl (c .before .before .put-place .ensures)))
 
 returns-2 : tie.Need-returns-2
 unfolding recipePairs
 returns-2 c =
+    let e = sym (c .before .before .before .before .before .before .before .recipe-of .ensures) ∙ c .before .before .before .before .before .half2 .given .1 in
+    rw e (widen (omega arith) (c .before .before .put-word .ensures))
+
+returns-3 : tie.Need-returns-3
+unfolding recipePairs
+returns-3 c =
     let b = c .before .before .before .before .before .before .before .before .before .before in
-    let e = sym (b .before .before .before .before .before .recipe-of .ensures) ∙ b .before .before .before .half2 .given .1 in
+    let e = sym (b .before .before .before .before .before .recipe-of .ensures) ∙ b .before .before .before .half3 .given .1 in
     let low = b .put-word2 .ensures in
     let high = c .before .before .before .before .before .before .put-word3 .ensures in
     let mask = c .before .before .put-joined .ensures in
@@ -28,5 +37,6 @@ returns-2 c =
 pub put-half-spec : {M : Type 1} → statement M
 put-half-spec =
     tie.close
-    (tie.spec (λ c κs. search needs) (λ c. search needs) (λ c κs. search needs) (λ c. search needs) (λ c κs. search needs)
-    (λ c κs. search needs) (λ c κs. search needs) (λ c. search needs) returns (λ c. search needs) returns-2)
+    (tie.spec (λ c κs. search needs) (λ c. search needs) (λ c κs. search needs) (λ c. search needs) (λ c κs. search needs) (λ c. search needs)
+    (λ c κs. search needs) (λ c κs. search needs) (λ c κs. search needs) (λ c. search needs) returns (λ c. search needs) returns-2
+    (λ c. search needs) returns-3)

@@ -1,16 +1,22 @@
 -- `emit::put_not` meets its contract.
 -- Assumes nothing.
+use mathlib.Core.Path.{refl}
+use lib.Dec.{lit<}
 use borrow.Author.Needs.{needs}
+use Rattle.insn.specs.declared.Operand.the-variants.{Q}
 use Rattle.recipes.specs.Pairs.{pairTable, pairsBy}
-use Rattle.emit.proofs.Puts.{put-then}
+use Rattle.recipes.proofs.Places.{scratch, set-record, set-read}
+use Rattle.emit.proofs.Puts.{put-at, put-then}
 use Rattle.emit.proofs.put_not.Statement.{statement}
 use Rattle.emit.proofs.put_not.Tie as tie
 
 returns : tie.Need-returns
 unfolding pairsBy pairTable
-returns c = put-then _ _ (rw (c .before .before .before .before .before .before .before .before .set-word .ensures) at (c .before .before .before .before .before .before .before .put .ensures)) (rw (c .before .before .before .invert .ensures) at (c .before .before .put2 .ensures))
+returns c =
+    let zero = put-at _ scratch (set-read 0 (lit< tt)) (set-record 0 (lit< tt) (Q 14)) (c .before .before .before .before .before .before .before .put-place .ensures) in
+    put-then _ _ zero (rw (c .before .before .before .invert .ensures) at (c .before .before .put .ensures))
 
 pub put-not-spec : {M : Type 1} → statement M
 put-not-spec =
     tie.close
-    (tie.spec (λ c κs. search needs) (λ c κs. search needs) (λ c κs. search needs) (λ c κs. search needs) (λ c. search needs) returns)
+    (tie.spec (λ c κs. search needs) (λ c κs. search needs) (λ c κs. search needs) (λ c. search needs) returns)

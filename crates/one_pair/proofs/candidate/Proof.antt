@@ -1,0 +1,25 @@
+-- `one_pair::candidate` meets its contract.
+-- Assumes nothing.
+use native.Mathlib.Omega.{arith}
+use borrow.Author.Needs.{needs}
+use borrow.Author.Tests.{eq-eqb, ne-eqb}
+use Rattle.one_pair.proofs.Guess.{covers}
+use Rattle.one_pair.proofs.candidate.Statement.{statement}
+use Rattle.one_pair.proofs.candidate.Tie as tie
+
+add-result : tie.Need-add-result
+add-result c = omega (arith, c .byte-bits .ensures .1)
+
+returns : tie.Need-returns
+returns c = covers _ _ (rw (ne-eqb _ _ (c .before .if1 .taken), c .byte-bits .ensures .0))
+
+returns-2 : tie.Need-returns-2
+returns-2 c = covers _ _ (rw (eq-eqb _ _ (c .before .before .if1 .left), eq-eqb _ _ (c .before .if2 .taken)) (c .halfword-place .ensures))
+
+returns-3 : tie.Need-returns-3
+returns-3 c = covers _ _ (rw (eq-eqb _ _ (c .before .before .if1 .left), ne-eqb _ _ (c .before .if2 .left)) (c .word-place .ensures))
+
+pub candidate-spec : {M : Type 1} → statement M
+candidate-spec =
+    tie.close
+    (tie.spec (λ c κs. search needs) add-result returns (λ c κs. search needs) returns-2 (λ c κs. search needs) returns-3)
