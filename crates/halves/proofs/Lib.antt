@@ -1,3 +1,4 @@
 pub mod Places
 pub mod Filled
+pub mod Families
 pub mod Promises

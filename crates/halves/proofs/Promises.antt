@@ -29,12 +29,13 @@ use Rattle.immediate_values.proofs.Immediates.{spelled-back}
 use Rattle.readings.specs.Operands.{isSet}
 use Rattle.readings.proofs.Parts.{two-operands}
 use Rattle.read_immediates.specs.Modimm.{modimmOf, imm8Of, modimmReading}
-use Rattle.decode.specs.Reading.{reading, inFamily}
+use Rattle.decode.specs.Reading.{reading, familyOf, inFamily}
+use Rattle.decode.specs.declared.Family.the-variants.{ModifiedImmediate}
 use Rattle.writings.specs.Forms.{Pair, pair}
 use Rattle.writings.proofs.Pairs.{hw1Of, hw2Of}
 use Rattle.write_immediates.specs.Modimm.{modimmPair}
 use Rattle.trips.proofs.RoundModimm.{PairFields, pair-fields, pair-reads, packs}
-use Rattle.trips.proofs.Routing.{ImmediateBits, Route, routed, to-modimm}
+use Rattle.trips.proofs.Routing.{ImmediateBits, Route, routed}
 use Rattle.operations.specs.declared.Operation.the-variants.{Constant}
 use Rattle.operations.specs.Operations.{resultOf}
 use Rattle.meanings.specs.Meaning.{Act, act, registers}
@@ -50,7 +51,8 @@ use Rattle.one_pair.specs.One.{setting, leaves, isOne, oneAt, oneFor}
 use Rattle.one_pair.proofs.Rows.{One, holds}
 use Rattle.recipes.specs.Pairs.{byWords, recipeBy, recipeOf, recordAt, recipePairs, halfPairs}
 use Rattle.recipes.proofs.Places.{double-register, place-writes, one-leaves, leaves-read}
-use Rattle.halves.specs.Promises.{SetsAlone, placeOf, Lowest, OneWhereOne, LongerElse}
+use Rattle.halves.specs.Promises.{SetsAlone, placeOf, Lowest, OnlyImmediates, OneWhereOne, LongerElse}
+use Rattle.halves.proofs.Families.{sets-immediate}
 use Rattle.halves.proofs.Filled.{allOf, all-read, all-good}
 use Rattle.halves.proofs.Places.{patternAt, pattern-at, place-read, pair-steps, setting-word, setting-effect, one-effect}
 
@@ -82,6 +84,9 @@ place-passes v o c b ho hc hb =
     let e3 : field 7 0 t ≡ b = omega arith in
     rw (e1, e2, e3)
 
+pub onlyImmediates : OnlyImmediates
+onlyImmediates r v hw1 hw2 hr s = sets-immediate r v hw1 hw2 hr (s .first-halfword) (s .second-halfword) (s .insn) (s .read) (s .named) (s .leaves)
+
 -- A PAIR THAT SETS THE HALF ALONE IS ONE THAT THE SEARCH TAKES
 module _ (r v hw1 hw2 : ℕ) (hr : r < 32) (s : SetsAlone r v hw1 hw2) where
   abbrev o : ℕ
@@ -99,12 +104,15 @@ module _ (r v hw1 hw2 : ℕ) (hr : r < 32) (s : SetsAlone r v hw1 hw2) where
   abbrev quad : Bool
   quad = isSet (bit 6 hw2)
 
+  family : familyOf hw1 hw2 ≡ ModifiedImmediate
+  family = onlyImmediates r v hw1 hw2 hr s
+
   expands : Expands o c b quad d (s .insn)
-  expands = constantExpands hw1 hw2 0 (s .insn) (s .family) (s .read)
+  expands = constantExpands hw1 hw2 0 (s .insn) family (s .read)
 
   its-cell : Cell o c b (s .insn)
   unfolding reading inFamily modimmReading
-  its-cell = read-cell o c b d 0 quad (s .insn) (omega arith) (omega arith) (rw (s .family) at (s .read))
+  its-cell = read-cell o c b d 0 quad (s .insn) (omega arith) (omega arith) (rw family at (s .read))
 
   its-name : setting (cellAt modimm o c) ≡ true
   its-name = sym (ap setting (its-cell .spelled)) ∙ s .named
@@ -202,7 +210,7 @@ module _ (r v hw1 hw2 : ℕ) (hr : r < 32) (s : SetsAlone r v hw1 hw2) where
   -- with its register and its place it is the pair itself
   its-pair : modimmPair (placeOf hw1 hw2) false r ≡ pair hw1 hw2
   its-pair =
-      let f : ImmediateBits hw1 hw2 true = subst (Route hw1 hw2) (s .family) (routed hw1 hw2) in
+      let f : ImmediateBits hw1 hw2 true = subst (Route hw1 hw2) family (routed hw1 hw2) in
       sym (ap (λ (q : Bool). modimmPair (placeOf hw1 hw2) q r) single) ∙ sym (ap (modimmPair (placeOf hw1 hw2) quad) target)
       ∙ packs hw1 hw2 (s .first-halfword) (s .second-halfword) f
 
@@ -224,7 +232,6 @@ module _ (r v t : ℕ) (hr : r < 32) (ht : t < 8192) (one : One v (bit 12 t) (fi
       record {
         first-halfword = its-fields .first-halfword;
         second-halfword = its-fields .second-halfword;
-        family = to-modimm (hw1Of p) (hw2Of p) (its-fields .bits);
         insn = recordAt (D r) t;
         read = pair-reads t r false ht hr (hw1Of p) (hw2Of p) 0 (whole p) ∙ place-read i read;
         named = ap setting (name-back (bit 12 t) (field 11 8 t) (omega arith) (omega arith) (read .filled)) ∙ one .named;

@@ -32,11 +32,10 @@ pub record Leaves (r v hw1 hw2 : ℕ) (s : State) : Type 0 where
   pub stepped : stepPair hw1 hw2 s ≡ accepted after
   pub alone : Alone r v (s .file) (after .file)
 
--- a modified-immediate pair that is accepted, is read as a vmov or a vmvn, and sets that half alone, from every file
+-- a pair that is accepted, is read as a vmov or a vmvn, and sets that half alone, from every file
 pub record SetsAlone (r v hw1 hw2 : ℕ) : Type 0 where
   pub first-halfword : hw1 < 65536
   pub second-halfword : hw2 < 65536
-  pub family : familyOf hw1 hw2 ≡ ModifiedImmediate
   pub insn : Insn
   pub read : reading hw1 hw2 0 ≡ accepted insn
   pub named : setting (nameOf (insn .mnemonic)) ≡ true
@@ -56,6 +55,10 @@ pub record Lowest (r v : ℕ) (pairs : List Insn) : Type 0 where
   pub sets : SetsAlone r v hw1 hw2
   pub lowest : (hw3 hw4 : ℕ) → SetsAlone r v hw3 hw4 → placeOf hw1 hw2 ≤ placeOf hw3 hw4
   pub only : (hw3 hw4 : ℕ) → SetsAlone r v hw3 hw4 → placeOf hw3 hw4 ≡ placeOf hw1 hw2 → pair hw3 hw4 ≡ pair hw1 hw2
+
+-- such a pair is a modified immediate: a copy of a register and vmovl, whose names begin so too, leave no number from every file
+abbrev pub OnlyImmediates : Type 0
+OnlyImmediates = (r v hw1 hw2 : ℕ) → r < 32 → SetsAlone r v hw1 hw2 → familyOf hw1 hw2 ≡ ModifiedImmediate
 
 -- one pair wherever there is such a pair
 abbrev pub OneWhereOne : Type 0

@@ -2,10 +2,11 @@
 -- Assumes nothing.
 use mathlib.Core.Path.{_≡_, refl, sym, ap, _∙_}
 use mathlib.Core.Bool.{Bool, true, false}
+use mathlib.Core.Logic.{_≢_}
 use Prim.Native.Nat.{ℕ, _+_, _-_, _*_, _/_, _%_, _^_, _<_, _≤_}
 use native.Mathlib.Omega.{arith}
 use lib.Dec.{eqb, ltb, leb}
-use borrow.Author.Tests.{eqb-true, leb-true, ltb-true}
+use borrow.Author.Tests.{eqb-true, leb-true, ltb-true, eq-eqb, ne-eqb}
 use Rattle.laws.specs.Choice.{choose, both}
 use Rattle.laws.specs.Search.{at, none}
 use Rattle.laws.proofs.Range.{values, agree}
@@ -26,6 +27,19 @@ guess v =
     choose (eqb (v % 0x1_0000_0000) (v / 0x1_0000_0000))
     (choose (eqb (v % 0x1_0000_0000 % 0x1_0000) (v % 0x1_0000_0000 / 0x1_0000)) (halfwordPlace (v % 0x1_0000_0000 % 0x1_0000)) (wordPlace (v % 0x1_0000_0000)))
     (0x1e00 + byteBits v)
+
+-- whose three cases are told by the words, and by the halfwords
+module _ (v t : ℕ) where
+  pub by-bytes : v % 0x1_0000_0000 ≢ v / 0x1_0000_0000 → t ≡ 0x1e00 + byteBits v → t ≡ guess v
+  by-bytes n e = rw (ne-eqb _ _ n) e
+
+  pub by-halfword : v % 0x1_0000_0000 ≡ v / 0x1_0000_0000 → v % 0x1_0000_0000 % 0x1_0000 ≡ v % 0x1_0000_0000 / 0x1_0000
+      → t ≡ halfwordPlace (v % 0x1_0000_0000 % 0x1_0000) → t ≡ guess v
+  by-halfword w h e = rw (eq-eqb _ _ w, eq-eqb _ _ h) e
+
+  pub by-word : v % 0x1_0000_0000 ≡ v / 0x1_0000_0000 → v % 0x1_0000_0000 % 0x1_0000 ≢ v % 0x1_0000_0000 / 0x1_0000
+      → t ≡ wordPlace (v % 0x1_0000_0000) → t ≡ guess v
+  by-word w n e = rw (eq-eqb _ _ w, ne-eqb _ _ n) e
 
 -- at each of the 8192: a readable place's value has a readable place, no higher, of the same value
 abbrev covered : ℕ → Bool

@@ -191,7 +191,7 @@ carried name (S n) t held e = never (cc)
 carried name Other t held e = never (cc)
 carried name Absent t held e = never (cc)
 
-both-fields : (quad : Bool) (x y : Answer ℕ) (p : Pair) → modimmForm quad x y ≡ accepted p
+pub both-fields : (quad : Bool) (x y : Answer ℕ) (p : Pair) → modimmForm quad x y ≡ accepted p
     → (d : ℕ) × (t : ℕ) × (x ≡ accepted d) × (y ≡ accepted t) × (modimmPair t quad d ≡ p)
 both-fields quad (accepted d) (accepted t) p e = (d, t, refl, refl, cc)
 both-fields quad (accepted d) (refused n) p e = never (cc)

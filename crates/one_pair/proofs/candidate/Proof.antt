@@ -1,9 +1,9 @@
 -- `one_pair::candidate` meets its contract.
 -- Assumes nothing.
+use mathlib.Core.Path.{refl}
 use native.Mathlib.Omega.{arith}
 use borrow.Author.Needs.{needs}
-use borrow.Author.Tests.{eq-eqb, ne-eqb}
-use Rattle.one_pair.proofs.Guess.{covers}
+use Rattle.one_pair.proofs.Guess.{by-bytes, by-halfword, by-word, covers}
 use Rattle.one_pair.proofs.candidate.Statement.{statement}
 use Rattle.one_pair.proofs.candidate.Tie as tie
 
@@ -11,13 +11,13 @@ add-result : tie.Need-add-result
 add-result c = omega (arith, c .byte-bits .ensures .1)
 
 returns : tie.Need-returns
-returns c = covers _ _ (rw (ne-eqb _ _ (c .before .if1 .taken), c .byte-bits .ensures .0))
+returns c = covers _ _ (by-bytes _ _ (c .before .if1 .taken) (rw (c .byte-bits .ensures .0) refl))
 
 returns-2 : tie.Need-returns-2
-returns-2 c = covers _ _ (rw (eq-eqb _ _ (c .before .before .if1 .left), eq-eqb _ _ (c .before .if2 .taken)) (c .halfword-place .ensures))
+returns-2 c = covers _ _ (by-halfword _ _ (c .before .before .if1 .left) (c .before .if2 .taken) (c .halfword-place .ensures))
 
 returns-3 : tie.Need-returns-3
-returns-3 c = covers _ _ (rw (eq-eqb _ _ (c .before .before .if1 .left), ne-eqb _ _ (c .before .if2 .left)) (c .word-place .ensures))
+returns-3 c = covers _ _ (by-word _ _ (c .before .before .if1 .left) (c .before .if2 .left) (c .word-place .ensures))
 
 pub candidate-spec : {M : Type 1} → statement M
 candidate-spec =

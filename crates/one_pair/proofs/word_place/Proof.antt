@@ -1,5 +1,6 @@
 -- `one_pair::word_place` meets its contract.
 -- Assumes nothing.
+use mathlib.Core.Path.{refl}
 use native.Mathlib.Omega.{arith}
 use borrow.Author.Needs.{needs}
 use borrow.Author.Tests.{lt-ltb, le-ltb, eq-eqb, ne-eqb}
@@ -7,13 +8,13 @@ use Rattle.one_pair.proofs.word_place.Statement.{statement}
 use Rattle.one_pair.proofs.word_place.Tie as tie
 
 returns : tie.Need-returns
-returns c = rw (lt-ltb _ 0x100_0000 (c .before .if1 .taken), eq-eqb _ 0xff_ff00 (c .if2 .taken))
+returns c = rw (lt-ltb _ 0x100_0000 (c .before .if1 .taken), eq-eqb _ 0xff_ff00 (c .if2 .taken)) refl
 
 returns-2 : tie.Need-returns-2
-returns-2 c = rw (c .word-offset .ensures .0, lt-ltb _ 0x100_0000 (c .before .before .if1 .taken), ne-eqb _ 0xff_ff00 (c .before .if2 .left))
+returns-2 c = rw (c .word-offset .ensures .0, lt-ltb _ 0x100_0000 (c .before .before .if1 .taken), ne-eqb _ 0xff_ff00 (c .before .if2 .left)) refl
 
 returns-3 : tie.Need-returns-3
-returns-3 c = rw (c .word-offset2 .ensures .0, le-ltb _ 0x100_0000 (c .before .before .if1 .left), eq-eqb _ 0 (c .before .if3 .taken))
+returns-3 c = rw (c .word-offset2 .ensures .0, le-ltb _ 0x100_0000 (c .before .before .if1 .left), eq-eqb _ 0 (c .before .if3 .taken)) refl
 
 returns-4 : tie.Need-returns-4
 returns-4 c =
@@ -37,6 +38,7 @@ returns-5 c =
       le-ltb _ 0xff00_0000 (c .before .if5 .left),
       c .word-offset3 .ensures .0,
     )
+    refl
 
 returns-6 : tie.Need-returns-6
 returns-6 c =
@@ -46,6 +48,7 @@ returns-6 c =
       ne-eqb _ 0 (c .before .if4 .left),
       eq-eqb _ 0xff00_00ff (c .if6 .taken),
     )
+    refl
 
 add-result-6 : tie.Need-add-result-6
 add-result-6 c = omega (arith, c .word-offset4 .ensures .1)
@@ -59,6 +62,7 @@ returns-7 c =
       ne-eqb _ 0xff00_00ff (c .before .if6 .left),
       c .word-offset4 .ensures .0,
     )
+    refl
 
 pub word-place-spec : {M : Type 1} → statement M
 word-place-spec =
