@@ -6,7 +6,7 @@ use Prim.Native.Nat.{ℕ, _-_, _^_, _<_}
 use native.Mathlib.Nat.{add-zero}
 use native.Mathlib.Omega.{arith}
 use lib.ListN.{set}
-use Rattle.laws.specs.Answer.{Answer, accepted, refused}
+use Rattle.laws.specs.Answer.{Answer, accepted}
 use Rattle.laws.specs.Choice.{choose}
 use Rattle.laws.proofs.Range.{values, agree2}
 use Rattle.insn.specs.declared.Insn.{Insn}
@@ -36,16 +36,12 @@ use Rattle.machine.specs.State.{State, state}
 use Rattle.machine.specs.Step.{stepBy, stepRead, stepPair}
 use Rattle.machine.proofs.Unmarked.{quietly}
 use Rattle.one_pair.specs.One.{begins, setting, leaves}
-use Rattle.one_pair.proofs.Rows.{One}
+use Rattle.one_pair.proofs.Rows.{One, plain}
 use Rattle.recipes.specs.Pairs.{recordAt}
 use Rattle.recipes.proofs.Places.{Read as IsRead, Register, place-writes}
 use Rattle.recipes.proofs.Writes.{Writes}
 
 -- the pattern of a place that has one
-abbrev plain : Answer ℕ → ℕ
-plain (accepted p) = p
-plain (refused n) = 0
-
 abbrev pub patternAt : ℕ → ℕ
 patternAt t = plain (expandImm (bit 12 t) (field 11 8 t) (field 7 0 t))
 

@@ -1,2 +1,3 @@
 pub mod Expansions
 pub mod Promises
+pub mod Defined

@@ -1,3 +1,4 @@
 pub mod Rows
 pub mod Guess
 pub mod Tested
+pub mod Promises

@@ -10,13 +10,14 @@ use borrow.Author.Tests.{eqb-true, eq-eqb}
 use Rattle.laws.specs.Answer.{Answer, accepted, refused}
 use Rattle.laws.specs.Choice.{choose, both}
 use Rattle.laws.proofs.Range.{values, agree}
-use Rattle.laws.proofs.Never.{never, wrong}
+use Rattle.laws.proofs.Never.{wrong}
 use Rattle.laws.proofs.Tests.{both-true, not-holds}
 use Rattle.tables.specs.Cells.{cellAt}
 use Rattle.immediate_tables.specs.Modimm.{modimm}
 use Rattle.tables.proofs.Cells.{cell16}
 use Rattle.fields.specs.Halfwords.{bit, field}
-use Rattle.immediates.specs.Modified.{Constant, byte, eachBit, float, undefined, constantAt, patternIn, expandImm, zeroRefused}
+use Rattle.immediates.specs.Modified.{constantAt, expandImm, zeroRefused}
+use Rattle.immediates.proofs.Defined.{isUndefined, not-refused}
 use Rattle.one_pair.specs.One.{begins, setting, leaves, isLeft, isOne, oneAt}
 use Rattle.one_pair.specs.Own.{turned}
 
@@ -68,26 +69,13 @@ leaves-row k p h e = ap (λ (b : Bool). choose b (2 ^ 64 - 1 - p) p) (rw e at (t
     go false false = refl
 
 -- a row that sets has a pattern
-abbrev plain : Answer ℕ → ℕ
+abbrev pub plain : Answer ℕ → ℕ
 plain (accepted p) = p
 plain (refused n) = 0
-
-abbrev isUndefined : Constant → Bool
-isUndefined (byte bits place ones) = false
-isUndefined eachBit = false
-isUndefined float = false
-isUndefined undefined = true
 
 set-defined : (k : ℕ) → k < 32 → both (setting (cell16 modimm k)) (isUndefined (constantAt (k / 16) (k % 16))) ≡ false
 unfolding values modimm constantAt
 set-defined = agree (λ (k : ℕ). both (setting (cell16 modimm k)) (isUndefined (constantAt (k / 16) (k % 16)))) (λ (k : ℕ). false) 32 refl
-
-not-refused : (c : Constant) (b n : ℕ) → isUndefined c ≡ false → patternIn c b ≡ refused n → ⊥
-unfolding patternIn
-not-refused (byte bits place ones) b n h e = never (cc)
-not-refused eachBit b n h e = never (cc)
-not-refused float b n h e = never (cc)
-not-refused undefined b n h e = wrong (sym h)
 
 defined : (k b n : ℕ) → k < 32 → setting (cell16 modimm k) ≡ true → expandImm (k / 16) (k % 16) b ≡ refused n → ⊥
 defined k b n h e = not-refused (constantAt (k / 16) (k % 16)) b n (rw e at (set-defined k h))

@@ -1,3 +1,4 @@
 pub mod One
 pub mod Answers
 pub mod Own
+pub mod Promises

@@ -13,7 +13,7 @@ use Rattle.laws.specs.Answer.{Answer, accepted, refused, andThen}
 use Rattle.laws.specs.Choice.{choose, both}
 use Rattle.laws.specs.Signed.{twosComplement, modulo}
 use Rattle.laws.proofs.Range.{values, agree2}
-use Rattle.laws.proofs.Never.{never, wrong}
+use Rattle.laws.proofs.Never.{wrong}
 use Rattle.insn.specs.declared.Insn.{Insn}
 use Rattle.insn.specs.declared.Mark.the-variants.{T1}
 use Rattle.insn.specs.declared.Operand.{Operand}
@@ -25,8 +25,8 @@ use Rattle.fields.specs.Halfwords.{bit, field}
 use Rattle.fields.specs.Registers.{dnumOf, bits, vecOf, vecBits}
 use Rattle.fields.proofs.Promises.{bitsOfVec}
 use Rattle.floats.specs.Floats.{floatBits}
-use Rattle.immediates.specs.Modified as modified
-use Rattle.immediates.specs.Modified.{byte, eachBit, float, undefined, constantAt, element, copies, patternIn, expandImm, operandIn, modimmOperand, needsNonzero}
+use Rattle.immediates.proofs.Defined.{isUndefined, not-refused}
+use Rattle.immediates.specs.Modified.{constantAt, element, copies, patternIn, expandImm, operandIn, modimmOperand, needsNonzero}
 use Rattle.floats.proofs.Found.{back-found}
 use Rattle.read_immediates.specs.Modimm.{modimmOf, imm8Of, modimmReading}
 use Rattle.readings.specs.Operands.{isSet, insn}
@@ -140,22 +140,9 @@ number-cell o c b ho hc hb =
     rw (e1, e2) at (number-cells (o * 16 + c) b (omega arith) hb)
 
 -- a row that is not blank is defined
-abbrev isUndefined : modified.Constant → Bool
-isUndefined (byte width place ones) = false
-isUndefined eachBit = false
-isUndefined float = false
-isUndefined undefined = true
-
 defined : (o c : ℕ) → o < 2 → c < 16 → isUndefined (constantAt o c) ≡ not (constant (formAt o c))
 unfolding values forms formAt constantAt
 defined = agree2 (λ (o c : ℕ). isUndefined (constantAt o c)) (λ (o c : ℕ). not (constant (formAt o c))) 2 16 refl
-
-not-refused : (k : modified.Constant) (b n : ℕ) → isUndefined k ≡ false → patternIn k b ≡ refused n → ⊥
-unfolding patternIn
-not-refused (byte width place ones) b n h e = never (cc)
-not-refused eachBit b n h e = never (cc)
-not-refused float b n h e = never (cc)
-not-refused undefined b n h e = wrong (sym h)
 
 -- VMOV.F32's pattern
 float-expands : (b : ℕ) → expandImm 0 15 b ≡ accepted (copies 2 32 (floatBits b))

@@ -39,6 +39,7 @@ use Rattle.fields.specs.Promises.{FirstFields, SecondFields}
 use Rattle.fields.proofs.Promises.{firstUnpacked, secondUnpacked, firstPacked, secondPacked}
 use Rattle.floats.specs.Floats.{floatOf}
 use Rattle.immediates.specs.Modified.{Constant, byte, eachBit, float, undefined, constantAt, element, operandIn, modimmOperand, needsNonzero}
+use Rattle.immediates.proofs.Defined.{isUndefined}
 use Rattle.amounts.specs.Shifts.{isEscape}
 use Rattle.floats.proofs.Found.{fitting}
 use Rattle.floats.proofs.Promises.{floatBack}
@@ -223,12 +224,6 @@ modimm-back m k count a b c number hw1 hw2 address home absent held e =
     }
 
 -- read, then written
-
-abbrev isUndefined : Constant → Bool
-isUndefined (byte bits place ones) = false
-isUndefined eachBit = false
-isUndefined float = false
-isUndefined undefined = true
 
 undefined-rows : (r : ℕ) → r < 32 → eqt (cell16 modimm r) "" ≡ isUndefined (constantAt (r / 16) (r % 16))
 unfolding values modimm constantAt
