@@ -17,7 +17,6 @@ use Rattle.fields.specs.Halfwords.{bit, field}
 use Rattle.immediates.specs.Modified.{copies, expandImm}
 use Rattle.readings.specs.Operands as Read
 use Rattle.read_immediates.specs.Modimm.{modimmOf}
-use Rattle.decode.specs.Reading.{reading}
 use Rattle.writings.specs.Forms.{pair}
 use Rattle.write_immediates.specs.Modimm.{modimmPair}
 use Rattle.trips.proofs.RoundModimm.{pair-reads}

@@ -7,7 +7,7 @@ use mathlib.Core.Logic.{_≢_}
 use Prim.Native.Nat.{ℕ, _+_, _*_, _/_, _%_, _^_, _≤_, _<_}
 use native.Mathlib.Omega.{arith}
 use lib.Dec.{eqb, ltb, lit<}
-use lib.ListN.{length, getD, set, length-set}
+use lib.ListN.{set, length-set}
 use lib.Seq.{getD-set-same, getD-set-other}
 use lib.Text.{eqt}
 use borrow.Author.Tests.{eqb-true, eqb-false, ltb-true, ltb-false}
@@ -37,19 +37,18 @@ use Rattle.write_immediates.specs.Modimm.{modimmPair}
 use Rattle.trips.proofs.RoundModimm.{PairFields, pair-fields, pair-reads, packs}
 use Rattle.trips.proofs.Routing.{ImmediateBits, Route, routed}
 use Rattle.operations.specs.declared.Operation.the-variants.{Constant}
-use Rattle.operations.specs.Operations.{resultOf}
 use Rattle.meanings.specs.Meaning.{Act, act, registers}
 use Rattle.meanings.proofs.Actions.{meant}
 use Rattle.read_meanings.specs.Constants.{opAt, Expands}
 use Rattle.read_meanings.proofs.Constants.{constantExpands}
-use Rattle.effects.specs.File.{File, Good, readD}
+use Rattle.effects.specs.File.{File, readD}
 use Rattle.effects.specs.Effect.{effect}
 use Rattle.effects.proofs.Effects.{quad-words}
 use Rattle.machine.specs.State.{State, state, acted}
 use Rattle.machine.specs.Step.{stepBy, stepRead, stepPair}
 use Rattle.one_pair.specs.One.{setting, leaves, isOne, oneAt, oneFor}
 use Rattle.one_pair.proofs.Rows.{One, holds}
-use Rattle.recipes.specs.Pairs.{byWords, recipeBy, recipeOf, recordAt, recipePairs, halfPairs}
+use Rattle.recipes.specs.Pairs.{byWords, recipeOf, recordAt, recipePairs, halfPairs}
 use Rattle.recipes.proofs.Places.{double-register, place-writes, one-leaves, leaves-read}
 use Rattle.halves.specs.Promises.{SetsAlone, placeOf, Lowest, OnlyImmediates, OneWhereOne, LongerElse}
 use Rattle.halves.proofs.Families.{sets-immediate}

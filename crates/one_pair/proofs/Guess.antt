@@ -1,9 +1,9 @@
 -- The one place to try: antt computes, at each of the 8192 places, that what a place leaves has a formula's place for its lowest.
 -- Assumes nothing.
-use mathlib.Core.Path.{_≡_, refl, sym, ap, _∙_}
+use mathlib.Core.Path.{_≡_, refl, sym, _∙_}
 use mathlib.Core.Bool.{Bool, true, false}
 use mathlib.Core.Logic.{_≢_}
-use Prim.Native.Nat.{ℕ, _+_, _-_, _*_, _/_, _%_, _^_, _<_, _≤_}
+use Prim.Native.Nat.{ℕ, _+_, _-_, _*_, _/_, _%_, _<_, _≤_}
 use native.Mathlib.Omega.{arith}
 use lib.Dec.{eqb, ltb, leb}
 use borrow.Author.Tests.{eqb-true, leb-true, ltb-true, eq-eqb, ne-eqb}
@@ -12,12 +12,10 @@ use Rattle.laws.specs.Search.{at, none}
 use Rattle.laws.proofs.Range.{values, agree}
 use Rattle.laws.proofs.Search.{lowest}
 use Rattle.laws.proofs.Tests.{both-true}
-use Rattle.immediate_tables.specs.Modimm.{modimm}
-use Rattle.tables.proofs.Cells.{cell16}
 use Rattle.immediates.specs.Modified.{constantAt, element, patternIn, needsNonzero}
-use Rattle.immediate_values.specs.Offsets.{byteBits, halfwordOffset, wordOffset}
+use Rattle.immediate_values.specs.Offsets.{byteBits, wordOffset}
 use Rattle.immediate_values.proofs.Immediates.{row-of}
-use Rattle.one_pair.specs.One.{setting, oneAt, oneFor}
+use Rattle.one_pair.specs.One.{oneAt, oneFor}
 use Rattle.one_pair.specs.Own.{halfwordPlace, wordPlace, Covers}
 use Rattle.one_pair.proofs.Rows.{sets, sets-row, value, readable, its-row, of-row}
 

@@ -6,16 +6,14 @@ use Prim.Native.Nat.{ℕ, zero, suc, _+_, _<_}
 use native.Mathlib.Omega.{arith}
 use lib.Dec.{eqb}
 use borrow.Author.Tests.{eqb-true}
-use Rattle.laws.specs.Answer.{Answer, accepted, refused}
 use Rattle.laws.specs.Choice.{choose, both}
 use Rattle.laws.specs.Search.{Found, at, none}
 use Rattle.laws.proofs.Never.{wrong}
-use Rattle.laws.proofs.Range.{values}
 use Rattle.laws.proofs.Search.{hit}
 use Rattle.laws.proofs.Tests.{same-tests, both-true}
 use Rattle.immediate_tables.specs.Modimm.{modimm}
 use Rattle.fields.specs.Halfwords.{bit, field}
-use Rattle.immediates.specs.Modified.{constantAt, element, patternIn, expandImm, needsNonzero}
+use Rattle.immediates.specs.Modified.{constantAt, element, patternIn, needsNonzero}
 use Rattle.one_pair.specs.One.{isOne, oneAt, oneFor}
 use Rattle.one_pair.specs.Promises.{WorkedPlaces, leftAt, isAt, countBelow, HowMany}
 use Rattle.one_pair.proofs.Guess.{guess, covers, found-one}

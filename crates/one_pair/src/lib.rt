@@ -1,7 +1,7 @@
 // The one modified-immediate pair that leaves 64 bits in a D register, where there is one.
 ghost use mathlib.Core.Bool.{true};
 ghost use mathlib.Core.Path.{_≡_};
-ghost use Prim.Native.Nat.{_<_, _≤_};
+ghost use Prim.Native.Nat.{_<_};
 ghost use Rattle.tables.specs.Cells.{cellAt};
 ghost use Rattle.immediate_tables.specs.Modimm.{modimm};
 ghost use Rattle.fields.specs.Halfwords.{bit, field};
@@ -45,7 +45,7 @@ fn turned(row: u8, p: u64) -> u64
     !p
 }
 
-// Where a halfword would stand that fills 64 bits: four bytes alike, one byte of it, or all but one.
+// Where a halfword would stand that fills 64 bits: eight bytes alike, one byte of it beside 0, or beside ones.
 fn halfword_place(h: u64) -> u16
     requires { ⌜ h < 0x1_0000 ⌝ }
     ensures { λ r. ⌜ r ≡ halfwordPlace h ⌝ }

@@ -1,32 +1,24 @@
 -- The amounts that a sheet's pairs carry: each has a place in its pair.
 -- Assumes nothing.
 use mathlib.Core.Path.{_≡_, refl, sym, _∙_, subst}
-use mathlib.Core.Bool.{Bool, true, false}
-use mathlib.Core.Logic.{_≢_}
-use Prim.Native.Nat.{ℕ, zero, suc, _+_, _-_, _*_, _^_, _<_, _≤_}
-use Prim.Native.String.{String}
+use mathlib.Core.Bool.{Bool, true}
+use Prim.Native.Nat.{ℕ, zero, suc, _+_, _-_, _*_, _<_, _≤_}
 use native.Mathlib.Omega.{arith}
-use lib.Dec.{T, eqb, ltb}
+use lib.Dec.{T, ltb}
 use lib.IntN.{pos}
-use lib.Text.{eqt}
-use borrow.Author.Tests.{lt-ltb, ne-eqb}
+use borrow.Author.Tests.{lt-ltb}
 use Rattle.laws.specs.Answer.{accepted}
 use Rattle.laws.specs.Choice.{choose}
 use Rattle.laws.specs.Search.{Found, at, none, firstBelow}
-use Rattle.laws.specs.Signed.{twosComplement}
-use Rattle.laws.proofs.Range.{values, agree, agree2}
+use Rattle.laws.proofs.Range.{values, agree2}
 use Rattle.laws.proofs.Search.{all-fail}
 use Rattle.insn.specs.declared.Operand.the-variants.{Imm}
 use Rattle.insn.proofs.Sizes.{at-most-64}
-use Rattle.immediate_tables.specs.Modimm.{modimm}
 use Rattle.tables.specs.declared.ShiftClass.the-variants.{Right, Left}
 use Rattle.fields.specs.Halfwords.{bit, field}
-use Rattle.immediates.specs.Modified.{constantAt, element, operandIn, needsNonzero}
 use Rattle.amounts.specs.Shifts.{isEscape, rightEnd, leftStart, sizeCode}
 use Rattle.read_immediates.specs.Shift.{forbidden, columnOf}
 use Rattle.writings.specs.Numbers.{orNine}
-use Rattle.immediate_values.specs.Immediates as modified
-use Rattle.immediate_values.specs.Immediates.{immediateIn}
 use Rattle.amount_values.specs.Amounts as shift
 use Rattle.amount_values.specs.Amounts.{amountIn}
 use Rattle.insn.specs.Widths.{bitsAt}

@@ -10,7 +10,7 @@ use lib.ListN.{getD}
 use Rattle.laws.specs.Choice.{choose}
 use Rattle.laws.proofs.Range.{values, agree}
 use Rattle.homes.specs.declared.Home.{Home}
-use Rattle.homes.specs.declared.Home.the-variants.{Same3, Shift, Modimm, Vmov}
+use Rattle.homes.specs.declared.Home.the-variants.{Same3, Shift, Vmov}
 use Rattle.tables.specs.declared.ShiftClass.{ShiftClass}
 use Rattle.tables.specs.declared.ShiftClass.the-variants.{Right, Left}
 use Rattle.homes.specs.Home.{homeOf}

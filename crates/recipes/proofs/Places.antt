@@ -32,7 +32,6 @@ use Rattle.encode.specs.Writing.{writing}
 use Rattle.trips.proofs.RoundModimm.{place-written}
 use Rattle.one_pair.specs.One.{setting, oneAt, oneFor}
 use Rattle.one_pair.proofs.Rows.{One as Leaves, says}
-use Rattle.recipes.specs.declared.Recipe.{Recipe}
 use Rattle.recipes.specs.declared.Recipe.the-variants.{One, Twice, Joined}
 use Rattle.recipes.specs.Pairs.{twoOf, immediate, byWords, recipeBy, recipeOf, recordAt}
 use Rattle.recipes.proofs.Writes.{Writes, wrote-as}

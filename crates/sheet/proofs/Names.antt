@@ -15,9 +15,7 @@ use Rattle.lanes.specs.declared.LaneOp.the-variants.{Add, Sub, Mul, Max, Min, C
 use Rattle.insn.specs.declared.Sign.{Sign}
 use Rattle.insn.specs.declared.Sign.the-variants.{Unsigned, Signed}
 use Rattle.insn.specs.declared.Width.{Width}
-use Rattle.insn.specs.declared.Width.the-variants.{B32, B64}
 use Rattle.operations.specs.declared.BitOp.the-variants as bit
-use Rattle.operations.specs.declared.ConstantOp.the-variants as constant
 use Rattle.forms.specs.declared.Direction.the-variants as way
 use Rattle.forms.specs.declared.Form.{Form}
 use Rattle.forms.specs.declared.Form.the-variants as form

@@ -1,6 +1,5 @@
 -- `emit::put_not` meets its contract.
 -- Assumes nothing.
-use mathlib.Core.Path.{refl}
 use lib.Dec.{lit<}
 use borrow.Author.Needs.{needs}
 use Rattle.insn.specs.declared.Operand.the-variants.{Q}

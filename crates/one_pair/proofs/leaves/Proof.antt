@@ -1,7 +1,6 @@
 -- `one_pair::leaves` meets its contract.
 -- Assumes nothing.
 use mathlib.Core.Path.{sym, ap, _∙_}
-use native.Mathlib.Omega.{arith}
 use borrow.Author.Needs.{needs}
 use Rattle.immediates.specs.Answers.{expansionAnswer}
 use Rattle.one_pair.proofs.Tested.{refused-zero, no-pattern, by-pattern}
