@@ -197,7 +197,7 @@ extend-keeps m l u r a f b k h =
     (stored (Is b) (set (file b) (r .d) _) (r .d + 1) _ k (after 1 (lit< tt)) (stored (Is b) (file b) (r .d) _ k (after 0 (lit< tt)) (read-is b k h)))
 
 -- the meaning of a copy, and of a VMOVL
-inside : {A : Type 0} {x y : A} → accepted x ≡ accepted y → x ≡ y
+pub inside : {A : Type 0} {x y : A} → accepted x ≡ accepted y → x ≡ y
 inside e = cc
 
 module _ (i : Insn) (x : Act) (e : meaningOf i ≡ accepted x) where

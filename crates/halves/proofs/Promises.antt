@@ -13,6 +13,7 @@ use lib.Text.{eqt}
 use borrow.Author.Tests.{eqb-true, eqb-false, ltb-true, ltb-false}
 use Rattle.laws.specs.Answer.{Answer, accepted}
 use Rattle.laws.specs.Search.{Found, at, none}
+use Rattle.laws.specs.Signed.{twosComplement}
 use Rattle.laws.proofs.Never.{wrong}
 use Rattle.laws.proofs.Search.{least, all-fail}
 use Rattle.laws.proofs.Tests.{passed}
@@ -24,7 +25,7 @@ use Rattle.tables.specs.Cells.{cellAt}
 use Rattle.immediate_tables.specs.Modimm.{modimm}
 use Rattle.fields.specs.Halfwords.{bit, field}
 use Rattle.fields.specs.Registers.{dnumOf}
-use Rattle.immediates.specs.Modified.{zeroRefused}
+use Rattle.immediates.specs.Modified.{constantAt, element, operandIn, zeroRefused}
 use Rattle.immediate_values.proofs.Immediates.{spelled-back}
 use Rattle.readings.specs.Operands.{isSet}
 use Rattle.readings.proofs.Parts.{two-operands}
@@ -48,10 +49,11 @@ use Rattle.machine.specs.State.{State, state, acted}
 use Rattle.machine.specs.Step.{stepBy, stepRead, stepPair}
 use Rattle.one_pair.specs.One.{setting, leaves, isOne, oneAt, oneFor}
 use Rattle.one_pair.proofs.Rows.{One, holds}
-use Rattle.recipes.specs.Pairs.{byWords, recipeOf, recordAt, recipePairs, halfPairs}
+use Rattle.one_pair.proofs.Promises.{workedPlaces}
+use Rattle.recipes.specs.Pairs.{addByte, wordPairs, joinPairs, byWords, recipeOf, recordAt, recipePairs, halfPairs}
 use Rattle.recipes.proofs.Places.{double-register, place-writes, one-leaves, leaves-read}
-use Rattle.halves.specs.Promises.{SetsAlone, placeOf, Lowest, OnlyImmediates, OneWhereOne, LongerElse}
-use Rattle.halves.proofs.Families.{sets-immediate}
+use Rattle.halves.specs.Promises.{SetsAlone, placeOf, Lowest, OnlyImmediates, OneWhereOne, LongerElse, Sorted, one, longer, OneOrLonger, WorkedHalves}
+use Rattle.halves.proofs.Families.{inside, sets-immediate}
 use Rattle.halves.proofs.Filled.{allOf, all-read, all-good}
 use Rattle.halves.proofs.Places.{patternAt, pattern-at, place-read, pair-steps, setting-word, setting-effect, one-effect}
 
@@ -135,9 +137,6 @@ module _ (r v hw1 hw2 : ℕ) (hr : r < 32) (s : SetsAlone r v hw1 hw2) where
       let t : stepPair hw1 hw2 (allOf a) ≡ accepted (acted (does q) (allOf a)) =
       ap (λ (x : Answer Insn). stepRead x (allOf a)) (s .read) ∙ ap (λ (x : Answer Act). stepBy x (allOf a)) m in
       ap (λ (x : State). x .file) (inside (sym (s .leaves (allOf a) (all-good a h) .stepped) ∙ t))
-    where
-      inside : {x y : State} → accepted x ≡ accepted y → x ≡ y
-      inside e = cc
 
   -- no register but Dr is one number whatever the file
   no-other : (q : Bool) → quad ≡ q → (k : ℕ) → k < 32 → k ≢ r → ((a : ℕ) → a < 2 ^ 64 → readD (effect (does q) (allOf a .file)) k ≡ left) → ⊥
@@ -304,3 +303,20 @@ longerElse r v hr n = go (oneFor v) refl
     go : (f : Found) → oneFor v ≡ f → halfPairs r v ≡ recipePairs r (byWords v)
     go (at t) e = let o = one-leaves v t e in absurd (n _ _ (sets-alone r v t hr (o .1) (o .0)))
     go none e = half-long r v e
+
+pub oneOrLonger : OneOrLonger
+oneOrLonger r v hr = go (oneFor v) refl
+  where
+    go : (f : Found) → oneFor v ≡ f → Sorted r v
+    go (at t) e = let o = one-leaves v t e in one t e (oneWhereOne r v _ _ hr (sets-alone r v t hr (o .1) (o .0)))
+    go none e =
+        longer e (λ hw1 hw2 s. not-none v (placeOf hw1 hw2) (omega arith) (passes-there r v hw1 hw2 hr s) e) (half-long r v e)
+
+pub workedHalves : WorkedHalves
+unfolding modimm constantAt operandIn element twosComplement byWords recipePairs wordPairs addByte joinPairs
+workedHalves r = (
+  half-one r 0xffff_ffff_ffff_ffff 0x0eff (workedPlaces .1),
+  half-one r 0xffff_ff00_ffff_ff00 0x10ff (workedPlaces .2),
+  half-one r 0xff 0x1e01 (workedPlaces .4),
+  half-long r 1 (workedPlaces .5),
+)

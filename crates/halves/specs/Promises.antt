@@ -7,7 +7,9 @@ use mathlib.Core.Logic.{_≢_}
 use mathlib.Core.Path.{_≡_}
 use Prim.Native.Nat.{ℕ, _+_, _*_, _≤_, _<_}
 use Rattle.laws.specs.Answer.{accepted}
+use Rattle.laws.specs.Search.{at, none}
 use Rattle.insn.specs.declared.Insn.{Insn}
+use Rattle.insn.specs.declared.Operand.the-variants.{D}
 use Rattle.names.specs.Names.{nameOf}
 use Rattle.fields.specs.Halfwords.{bit, field}
 use Rattle.read_immediates.specs.Modimm.{imm8Of}
@@ -18,8 +20,8 @@ use Rattle.encode.specs.Writing.{writing}
 use Rattle.effects.specs.File.{File, Good, readD}
 use Rattle.machine.specs.State.{State}
 use Rattle.machine.specs.Step.{stepPair}
-use Rattle.one_pair.specs.One.{setting}
-use Rattle.recipes.specs.Pairs.{byWords, recipePairs, halfPairs}
+use Rattle.one_pair.specs.One.{setting, oneFor}
+use Rattle.recipes.specs.Pairs.{twoOf, threeOf, immediate, byWords, recipePairs, halfPairs}
 
 -- v in Dr, and every other register as it was
 pub record Alone (r v : ℕ) (file after : File) : Type 0 where
@@ -67,3 +69,21 @@ OneWhereOne = (r v hw1 hw2 : ℕ) → r < 32 → SetsAlone r v hw1 hw2 → Lowes
 -- and document 01's longer recipe only if there is none
 abbrev pub LongerElse : Type 0
 LongerElse = (r v : ℕ) → r < 32 → ((hw1 hw2 : ℕ) → SetsAlone r v hw1 hw2 → ⊥) → halfPairs r v ≡ recipePairs r (byWords v)
+
+-- every number is of one sort or the other, and the search of crate one_pair says of which
+pub data Sorted (r v : ℕ) : Type 0 where
+  one : (t : ℕ) → oneFor v ≡ at t → Lowest r v (halfPairs r v) → Sorted r v
+  longer : oneFor v ≡ none → ((hw1 hw2 : ℕ) → SetsAlone r v hw1 hw2 → ⊥) → halfPairs r v ≡ recipePairs r (byWords v) → Sorted r v
+
+abbrev pub OneOrLonger : Type 0
+OneOrLonger = (r v : ℕ) → r < 32 → Sorted r v
+
+-- all ones, ffffff00 twice, the lowest byte of ones, and a number that has none
+abbrev pub WorkedHalves : Type 0
+WorkedHalves =
+    (r : ℕ)
+    → (halfPairs r 0xffff_ffff_ffff_ffff ≡ twoOf "vmov.i8" (D r) (immediate 255) ∷ [])
+    × (halfPairs r 0xffff_ff00_ffff_ff00 ≡ twoOf "vmvn.i32" (D r) (immediate 255) ∷ [])
+    × (halfPairs r 0xff ≡ twoOf "vmov.i64" (D r) (immediate 255) ∷ [])
+    × (halfPairs r 1
+    ≡ twoOf "vmov.i32" (D r) (immediate 1) ∷ twoOf "vmov.i32" (D 28) (immediate 0) ∷ twoOf "vmov.i64" (D 30) (immediate 4294967295) ∷ threeOf "vbif" (D r) (D 28) (D 30) ∷ [])

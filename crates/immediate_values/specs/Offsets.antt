@@ -1,4 +1,4 @@
--- Where a pattern would stand among the rows of its width; whether it does is for a test to say.
+-- Where a pattern would stand among the rows of its width; whether it does is for a test to say. For contracts alone: no promise rests on it.
 -- Assumes nothing.
 use Prim.Native.Nat.{ℕ, _+_, _*_, _/_, _%_}
 use lib.Dec.{eqb, ltb}

@@ -1,6 +1,6 @@
 -- The one place to try: antt computes, at each of the 8192 places, that what a place leaves has a formula's place for its lowest.
 -- Assumes nothing.
-use mathlib.Core.Path.{_≡_, refl, sym, _∙_}
+use mathlib.Core.Path.{_≡_, refl, sym, ap, _∙_}
 use mathlib.Core.Bool.{Bool, true, false}
 use mathlib.Core.Logic.{_≢_}
 use Prim.Native.Nat.{ℕ, _+_, _-_, _*_, _/_, _%_, _<_, _≤_}
@@ -13,13 +13,28 @@ use Rattle.laws.proofs.Range.{values, agree}
 use Rattle.laws.proofs.Search.{lowest}
 use Rattle.laws.proofs.Tests.{both-true}
 use Rattle.immediates.specs.Modified.{constantAt, element, patternIn, needsNonzero}
-use Rattle.immediate_values.specs.Offsets.{byteBits, wordOffset}
+use Rattle.immediate_values.specs.Offsets.{byteBits, halfwordOffset, wordOffset}
 use Rattle.immediate_values.proofs.Immediates.{row-of}
 use Rattle.one_pair.specs.One.{oneAt, oneFor}
-use Rattle.one_pair.specs.Own.{halfwordPlace, wordPlace, Covers}
+use Rattle.one_pair.specs.Own.{Covers}
 use Rattle.one_pair.proofs.Rows.{sets, sets-row, value, readable, its-row, of-row}
 
--- the code's formula
+-- the code's formulas: where a halfword would stand that fills 64 bits, and a word whose two halfwords differ
+abbrev pub halfwordPlace : ℕ → ℕ
+halfwordPlace h =
+    choose (eqb (h % 0x100) (h / 0x100)) (choose (eqb h 0) 0 (0xe00 + h % 0x100))
+    (choose (ltb h 0x100) (0x800 + h)
+    (choose (eqb (h % 0x100) 0) (0xa00 + h / 0x100)
+    (0x1800 + halfwordOffset (0xffff - h))))
+
+abbrev pub wordPlace : ℕ → ℕ
+wordPlace w =
+    choose (ltb w 0x100_0000) (choose (eqb w 0xff_ff00) 0x1e66 (wordOffset w))
+    (choose (eqb (w % 0x100_0000) 0) (wordOffset w)
+    (choose (eqb (w % 0x1_0000) 0) (choose (ltb w 0xff00_0000) (0xf00 + w / 0x8000_0000 * 0x80 + w / 0x8_0000 % 0x80) (0x1000 + wordOffset (0xffff_ffff - w)))
+    (choose (eqb w 0xff00_00ff) 0x1e99 (0x1000 + wordOffset (0xffff_ffff - w)))))
+
+-- and for any number
 abbrev pub guess : ℕ → ℕ
 guess v =
     choose (eqb (v % 0x1_0000_0000) (v / 0x1_0000_0000))
@@ -151,6 +166,31 @@ covers v t e =
         let x = both-true (leb (guess v) u) _ c in
         let z = both-true (readable (guess v)) _ (x .1) in
         (leb-true (guess v) u (x .0), of-row v (guess v) (guess-sets v .within) (z .0) (eqb-true _ v (z .1)))
+
+-- a word twice, and a halfword twice
+word-back : (w : ℕ) → w < 0x1_0000_0000 → (w * 0x1_0000_0001 % 0x1_0000_0000 ≡ w) × (w * 0x1_0000_0001 / 0x1_0000_0000 ≡ w)
+word-back w h = (omega arith, omega arith)
+
+halfword-back : (h : ℕ) → h < 0x1_0000 → (h * 0x1_0001 % 0x1_0000 ≡ h) × (h * 0x1_0001 / 0x1_0000 ≡ h)
+halfword-back h s = (omega arith, omega arith)
+
+pub covers-halfword : (h t : ℕ) → h < 0x1_0000 → t ≡ halfwordPlace h → Covers (h * 0x1_0001 * 0x1_0000_0001) t
+covers-halfword h t s e =
+    let w = word-back (h * 0x1_0001) (omega arith) in
+    let b = halfword-back h s in
+    covers (h * 0x1_0001 * 0x1_0000_0001) t (by-halfword _ t (w .0 ∙ sym (w .1)) (rw (w .0, b .0, b .1)) (rw (w .0, b .0) e))
+
+pub covers-word : (w t : ℕ) → w < 0x1_0000_0000 → w % 0x1_0000 ≢ w / 0x1_0000 → t ≡ wordPlace w → Covers (w * 0x1_0000_0001) t
+covers-word w t s n e =
+    let b = word-back w s in
+    covers (w * 0x1_0000_0001) t (by-word _ t (b .0 ∙ sym (b .1)) (rw (b .0) n) (rw (b .0) e))
+
+-- and back
+pub twice-word : (v : ℕ) → v % 0x1_0000_0000 ≡ v / 0x1_0000_0000 → v % 0x1_0000_0000 * 0x1_0000_0001 ≡ v
+twice-word v e = omega arith
+
+pub twice-halfword : (w : ℕ) → w % 0x1_0000 ≡ w / 0x1_0000 → w % 0x1_0000 * 0x1_0001 ≡ w
+twice-halfword w e = omega arith
 
 -- the search, by its candidate
 pub found-one : (v t : ℕ) → Covers v t → choose (oneAt v t) (at t) none ≡ oneFor v

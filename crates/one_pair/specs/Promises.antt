@@ -24,7 +24,7 @@ WorkedPlaces =
     × (oneFor 0xff ≡ at 0x1e01)  -- vmov.i64 #255
     × (oneFor 1 ≡ none)
 
--- what the place t leaves, and whether t is the lowest that leaves it
+-- what the place t leaves, if it sets; and whether t is the lowest that leaves it, which no place is that does not set
 abbrev pub leftBy : String → Answer ℕ → ℕ
 leftBy name (accepted p) = leaves name p
 leftBy name (refused n) = 0

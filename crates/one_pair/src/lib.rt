@@ -1,13 +1,14 @@
 // The one modified-immediate pair that leaves 64 bits in a D register, where there is one.
 ghost use mathlib.Core.Bool.{true};
 ghost use mathlib.Core.Path.{_≡_};
-ghost use Prim.Native.Nat.{_<_};
+ghost use mathlib.Core.Logic.{_≢_};
+ghost use Prim.Native.Nat.{_*_, _/_, _%_, _<_};
 ghost use Rattle.tables.specs.Cells.{cellAt};
 ghost use Rattle.immediate_tables.specs.Modimm.{modimm};
 ghost use Rattle.fields.specs.Halfwords.{bit, field};
 ghost use Rattle.one_pair.specs.Answers.{oneAnswer};
 ghost use Rattle.one_pair.specs.One.{setting, oneAt, oneFor};
-ghost use Rattle.one_pair.specs.Own.{turned as turnedOf, halfwordPlace, wordPlace, Covers};
+ghost use Rattle.one_pair.specs.Own.{turned as turnedOf, Covers};
 use immediate_values::byte_bits;
 use immediate_values::halfword_offset;
 use immediate_values::word_offset;
@@ -48,7 +49,7 @@ fn turned(row: u8, p: u64) -> u64
 // Where a halfword would stand that fills 64 bits: eight bytes alike, one byte of it beside 0, or beside ones.
 fn halfword_place(h: u64) -> u16
     requires { ⌜ h < 0x1_0000 ⌝ }
-    ensures { λ r. ⌜ r ≡ halfwordPlace h ⌝ }
+    ensures { λ r. ⌜ Covers (h * 0x1_0001 * 0x1_0000_0001) r ⌝ }
 {
     if h % 0x100 == h / 0x100 {
         if h == 0 {
@@ -65,10 +66,11 @@ fn halfword_place(h: u64) -> u16
     OP_1 + HALFWORDS + halfword_offset(0xffff - h)
 }
 
-// Where a word would stand whose two halfwords differ: a byte at its place, a float, the complement of a byte, or bytes of 0 and 255 alone.
+// Where a word would stand that fills 64 bits and whose two halfwords differ: a byte at its place, perhaps with ones below it, or the complement of
+// such a word; a float; or bytes of 0 and 255 alone.
 fn word_place(w: u64) -> u16
-    requires { ⌜ w < 0x1_0000_0000 ⌝ }
-    ensures { λ r. ⌜ r ≡ wordPlace w ⌝ }
+    requires { ⌜ (w < 0x1_0000_0000) × (w % 0x1_0000 ≢ w / 0x1_0000) ⌝ }
+    ensures { λ r. ⌜ Covers (w * 0x1_0000_0001) r ⌝ }
 {
     if w < 0x100_0000 {
         if w == 0xff_ff00 {
@@ -107,7 +109,7 @@ fn candidate(v: u64) -> u16
 }
 
 // Whether a place of a VMOV or a VMVN is read, and leaves v.
-fn leaves(t: u16, v: u64) -> bool
+fn is_left(t: u16, v: u64) -> bool
     requires { ⌜ (t < 8192) × (setting (cellAt modimm (bit 12 t) (field 11 8 t)) ≡ true) ⌝ }
     ensures { λ r. ⌜ r ≡ oneAt v t ⌝ }
 {
@@ -128,7 +130,7 @@ pub fn one_for(v: u64) -> OnePair
     ensures { λ r. ⌜ oneAnswer r ≡ oneFor v ⌝ }
 {
     let t = candidate(v);
-    if leaves(t, v) {
+    if is_left(t, v) {
         return OnePair::Place(t);
     }
     OnePair::Nowhere

@@ -6,14 +6,14 @@ use Rattle.one_pair.proofs.Guess.{found-one}
 use Rattle.one_pair.proofs.one_for.Statement.{statement}
 use Rattle.one_pair.proofs.one_for.Tie as tie
 
-leaves-requires : tie.Need-leaves-requires
-leaves-requires c κs = (c .candidate .ensures .within, c .candidate .ensures .named)
+is-left-requires : tie.Need-is-left-requires
+is-left-requires c κs = (c .candidate .ensures .within, c .candidate .ensures .named)
 
 returns : tie.Need-returns
-returns c = rw (sym (c .before .leaves .ensures) ∙ c .if1 .taken) at (found-one _ _ (c .before .before .candidate .ensures))
+returns c = rw (sym (c .before .is-left .ensures) ∙ c .if1 .taken) at (found-one _ _ (c .before .before .candidate .ensures))
 
 returns-2 : tie.Need-returns-2
-returns-2 c = rw (sym (c .before .leaves .ensures) ∙ c .if1 .left) at (found-one _ _ (c .before .before .candidate .ensures))
+returns-2 c = rw (sym (c .before .is-left .ensures) ∙ c .if1 .left) at (found-one _ _ (c .before .before .candidate .ensures))
 
 pub one-for-spec : {M : Type 1} → statement M
-one-for-spec = tie.close (tie.spec (λ c κs. search needs) leaves-requires returns returns-2)
+one-for-spec = tie.close (tie.spec (λ c κs. search needs) is-left-requires returns returns-2)

@@ -1,11 +1,11 @@
--- `one_pair::leaves` meets its contract.
+-- `one_pair::is_left` meets its contract.
 -- Assumes nothing.
 use mathlib.Core.Path.{sym, ap, _∙_}
 use borrow.Author.Needs.{needs}
 use Rattle.immediates.specs.Answers.{expansionAnswer}
 use Rattle.one_pair.proofs.Tested.{refused-zero, no-pattern, by-pattern}
-use Rattle.one_pair.proofs.leaves.Statement.{statement}
-use Rattle.one_pair.proofs.leaves.Tie as tie
+use Rattle.one_pair.proofs.is_left.Statement.{statement}
+use Rattle.one_pair.proofs.is_left.Tie as tie
 
 returns : tie.Need-returns
 returns c =
@@ -27,8 +27,8 @@ returns-3 c =
     let s = z .before in
     no-pattern (s .args .v) (s .args .t) (s .pre .0) _ (sym (q .expand-imm .ensures) ∙ ap expansionAnswer (c .enum-told .given .1))
 
-pub leaves-spec : {M : Type 1} → statement M
-leaves-spec =
+pub is-left-spec : {M : Type 1} → statement M
+is-left-spec =
     tie.close
     (tie.spec (λ c. search needs) (λ c. search needs) (λ c κs. search needs) returns (λ c κs. search needs) (λ c. search needs)
     (λ c κs. search needs) (λ c. search needs) returns-2 returns-3)
