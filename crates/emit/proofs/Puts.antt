@@ -1,19 +1,15 @@
 -- The halfwords of records placed one after another.
 -- Assumes nothing.
-use mathlib.Core.Path.{_≡_, refl, sym, ap, _∙_}
-use mathlib.Core.Bool.{Bool}
+use mathlib.Core.Path.{_≡_, refl, sym}
 use mathlib.Core.List.{List, [], _∷_, _++_, append-assoc, append-nil}
 use Prim.Native.Nat.{ℕ, _+_}
-use Rattle.laws.specs.Answer.{Answer, accepted}
+use Rattle.laws.specs.Answer.{Answer}
 use Rattle.laws.specs.Placed.{Placed}
 use Rattle.laws.proofs.Placed.{then, nothing}
 use Rattle.insn.specs.declared.Insn.{Insn}
-use Rattle.insn.specs.declared.Operand.{Operand}
 use Rattle.writings.specs.Forms.{Pair}
-use Rattle.write_immediates.specs.Modimm.{modimmPair}
 use Rattle.encode.specs.Writing.{writing}
-use Rattle.recipes.specs.Pairs.{recordAt, halfwords, halfwordsOf}
-use Rattle.recipes.proofs.Places.{Register, Read, place-writes}
+use Rattle.recipes.specs.Pairs.{halfwords, halfwordsOf}
 
 code-append : (xs ys : List Insn) → halfwordsOf (xs ++ ys) ≡ halfwordsOf xs ++ halfwordsOf ys
 unfolding halfwordsOf
@@ -28,11 +24,6 @@ put-none l i = nothing l i
 pub put-as : {b i j : ℕ} {l l′ : List ℕ} (x : Insn) (a : Answer Pair) → writing x ≡ a → Placed b l i (halfwords a) l′ j → Placed b l i (halfwordsOf (x ∷ [])) l′ j
 unfolding halfwordsOf
 put-as x a e p = rw (e, append-nil (halfwords a)) p
-
--- a record that stands at a place op:cmode:imm8
-pub put-at : {b i j : ℕ} {l l′ : List ℕ} {quad : Bool} {a : Operand} {d t : ℕ} (x : Insn) → Register quad a d → Read t → recordAt a t ≡ x
-    → Placed b l i (halfwords (accepted (modimmPair t quad d))) l′ j → Placed b l i (halfwordsOf (x ∷ [])) l′ j
-put-at x register read same p = put-as x _ (ap writing (sym same) ∙ place-writes register read) p
 
 -- records and then others
 pub put-then : {a b : ℕ} {l l′ l″ : List ℕ} {i j k : ℕ} (xs ys : List Insn) → Placed a l i (halfwordsOf xs) l′ j → Placed b l′ j (halfwordsOf ys) l″ k → Placed (a + b) l i (halfwordsOf (xs ++ ys)) l″ k

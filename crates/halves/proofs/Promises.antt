@@ -52,7 +52,7 @@ use Rattle.one_pair.proofs.Rows.{One, holds}
 use Rattle.one_pair.proofs.Promises.{workedPlaces}
 use Rattle.recipes.specs.Pairs.{addByte, wordPairs, joinPairs, byWords, recipeOf, recordAt, recipePairs, halfPairs}
 use Rattle.recipes.proofs.Places.{double-register, place-writes, one-leaves, leaves-read}
-use Rattle.halves.specs.Promises.{SetsAlone, placeOf, Lowest, OnlyImmediates, OneWhereOne, LongerElse, Sorted, one, longer, OneOrLonger, WorkedHalves}
+use Rattle.halves.specs.Promises.{SetsAlone, placeOf, Lowest, OnlyImmediates, OneWhereOne, LongerElse, Decided, one, longer, OneOrLonger, WorkedHalves}
 use Rattle.halves.proofs.Families.{inside, sets-immediate}
 use Rattle.halves.proofs.Filled.{allOf, all-read, all-good}
 use Rattle.halves.proofs.Places.{patternAt, pattern-at, place-read, pair-steps, setting-word, setting-effect, one-effect}
@@ -307,7 +307,7 @@ longerElse r v hr n = go (oneFor v) refl
 pub oneOrLonger : OneOrLonger
 oneOrLonger r v hr = go (oneFor v) refl
   where
-    go : (f : Found) → oneFor v ≡ f → Sorted r v
+    go : (f : Found) → oneFor v ≡ f → Decided r v
     go (at t) e = let o = one-leaves v t e in one t e (oneWhereOne r v _ _ hr (sets-alone r v t hr (o .1) (o .0)))
     go none e =
         longer e (λ hw1 hw2 s. not-none v (placeOf hw1 hw2) (omega arith) (passes-there r v hw1 hw2 hr s) e) (half-long r v e)

@@ -71,12 +71,12 @@ abbrev pub LongerElse : Type 0
 LongerElse = (r v : ℕ) → r < 32 → ((hw1 hw2 : ℕ) → SetsAlone r v hw1 hw2 → ⊥) → halfPairs r v ≡ recipePairs r (byWords v)
 
 -- every number is of one sort or the other, and the search of crate one_pair says of which
-pub data Sorted (r v : ℕ) : Type 0 where
-  one : (t : ℕ) → oneFor v ≡ at t → Lowest r v (halfPairs r v) → Sorted r v
-  longer : oneFor v ≡ none → ((hw1 hw2 : ℕ) → SetsAlone r v hw1 hw2 → ⊥) → halfPairs r v ≡ recipePairs r (byWords v) → Sorted r v
+pub data Decided (r v : ℕ) : Type 0 where
+  one : (t : ℕ) → oneFor v ≡ at t → Lowest r v (halfPairs r v) → Decided r v
+  longer : oneFor v ≡ none → ((hw1 hw2 : ℕ) → SetsAlone r v hw1 hw2 → ⊥) → halfPairs r v ≡ recipePairs r (byWords v) → Decided r v
 
 abbrev pub OneOrLonger : Type 0
-OneOrLonger = (r v : ℕ) → r < 32 → Sorted r v
+OneOrLonger = (r v : ℕ) → r < 32 → Decided r v
 
 -- all ones, ffffff00 twice, the lowest byte of ones, and a number that has none
 abbrev pub WorkedHalves : Type 0

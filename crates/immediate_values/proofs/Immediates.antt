@@ -37,8 +37,7 @@ use Rattle.laws.proofs.Promises.{bitsBack}
 use Rattle.laws.proofs.Signed.{modulo-pos}
 use Rattle.writings.specs.Numbers.{orNine}
 use Rattle.immediate_values.specs.Immediates.{sameValue, immediateReads, immediateOf}
-use Rattle.immediate_values.specs.Offsets.{byteBits, halfwordOffset, wordOffset}
-use Rattle.immediate_values.specs.Own.{OnlyPlace}
+use Rattle.immediate_values.specs.Own.{byteBits, halfwordOffset, wordOffset, OnlyPlace}
 use Rattle.writings.proofs.Tests.{same-number}
 use Rattle.laws.proofs.Tests.{both-true, both-no, not-holds, same-text}
 

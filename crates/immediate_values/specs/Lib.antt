@@ -1,4 +1,3 @@
 pub mod Immediates
 pub mod Promises
-pub mod Offsets
 pub mod Own

@@ -7,7 +7,7 @@ use native.Mathlib.Omega.{arith}
 use lib.Dec.{T, eqb}
 use borrow.Author.Tests.{eqb-true, eqb-false}
 use Rattle.laws.specs.Choice.{choose}
-use Rattle.laws.specs.Search.{at, none, firstFrom, firstBelow}
+use Rattle.laws.specs.Search.{Found, at, none, firstFrom, firstBelow}
 use Rattle.laws.proofs.Never.{never}
 
 hit-from : (p : ℕ → Bool) (i n t : ℕ) → firstFrom p i n ≡ at t → (p t ≡ true) × (t < i + n)
@@ -23,22 +23,32 @@ hit-from p i (suc n) t e = go (p i) refl e (hit-from p (suc i) n t)
 pub hit : (p : ℕ → Bool) (n t : ℕ) → firstBelow n p ≡ at t → (p t ≡ true) × (t < n)
 hit p n t e = let h = hit-from p 0 n t e in (h .0, omega arith)
 
--- what was found is the lowest that passes
-least-from : (p : ℕ → Bool) (i n t : ℕ) → firstFrom p i n ≡ at t → (u : ℕ) → i ≤ u → u < t → p u ≡ false
+-- how far a search of the numbers below an end went
+abbrev reach : Found → ℕ → ℕ
+reach (at t) end = t
+reach none end = end
+
+-- what it passed over fails
+passed-over : (p : ℕ → Bool) (i n end : ℕ) (f : Found) → end ≡ i + n → firstFrom p i n ≡ f → (u : ℕ) → i ≤ u → u < reach f end → p u ≡ false
 unfolding firstFrom
-least-from p i zero t e u lo hi = never (cc)
-least-from p i (suc n) t e u lo hi = go (p i) refl e (λ f l. least-from p (suc i) n t f u l hi)
+passed-over p i zero end f s e u lo hi = absurd (let h = rw (← e) at hi in let z : ⊥ = omega arith in z)
+passed-over p i (suc n) end f s e u lo hi = go (p i) refl e (λ k l. passed-over p (suc i) n end f (omega arith) k u l hi)
   where
-    go : (b : Bool) → p i ≡ b → choose b (at i) (firstFrom p (suc i) n) ≡ at t → (firstFrom p (suc i) n ≡ at t → suc i ≤ u → p u ≡ false) → p u ≡ false
-    go true y f r = let k : i ≡ t = cc in absurd (let z : ⊥ = omega arith in z)
-    go false y f r = place (eqb i u) refl
+    go : (b : Bool) → p i ≡ b → choose b (at i) (firstFrom p (suc i) n) ≡ f → (firstFrom p (suc i) n ≡ f → suc i ≤ u → p u ≡ false) → p u ≡ false
+    go true y k r = absurd (let h = rw (← k) at hi in let z : ⊥ = omega arith in z)
+    go false y k r = place (eqb i u) refl
       where
         place : (b : Bool) → eqb i u ≡ b → p u ≡ false
-        place true s = sym (ap p (eqb-true i u s)) ∙ y
-        place false s = let ne = eqb-false i u s in r f (omega arith)
+        place true t = sym (ap p (eqb-true i u t)) ∙ y
+        place false t = let ne = eqb-false i u t in r k (omega arith)
 
+-- what was found is the lowest that passes
 pub least : (p : ℕ → Bool) (n t : ℕ) → firstBelow n p ≡ at t → (u : ℕ) → u < t → p u ≡ false
-least p n t e u h = least-from p 0 n t e u (omega arith) h
+least p n t e u h = passed-over p 0 n n (at t) (omega arith) e u (omega arith) h
+
+-- where none is found, none passes
+pub all-fail : (p : ℕ → Bool) (n : ℕ) → firstBelow n p ≡ none → (u : ℕ) → u < n → p u ≡ false
+all-fail p n e u h = passed-over p 0 n n none (omega arith) e u (omega arith) h
 
 found-from : (p : ℕ → Bool) (t : ℕ) → p t ≡ true → ((u : ℕ) → u < t → p u ≡ false) → (i n : ℕ) → i ≤ t → t < i + n → firstFrom p i n ≡ at t
 unfolding firstFrom
@@ -70,23 +80,6 @@ none-from p m no-one i (suc n) h = rw (no-one i (omega arith)) (none-from p m no
 -- where none passes, none is found
 pub nothing : (p : ℕ → Bool) (n : ℕ) → ((u : ℕ) → u < n → p u ≡ false) → firstBelow n p ≡ none
 nothing p n no-one = none-from p n no-one 0 n (omega arith)
-
--- where none is found, none passes
-none-here : (p : ℕ → Bool) (i n u : ℕ) → firstFrom p i n ≡ none → i ≤ u → u < i + n → p u ≡ false
-unfolding firstFrom
-none-here p i zero u e lo hi = absurd (let z : ⊥ = omega arith in z)
-none-here p i (suc n) u e lo hi = go (p i) refl e (λ f l. none-here p (suc i) n u f l (omega arith))
-  where
-    go : (b : Bool) → p i ≡ b → choose b (at i) (firstFrom p (suc i) n) ≡ none → (firstFrom p (suc i) n ≡ none → suc i ≤ u → p u ≡ false) → p u ≡ false
-    go true y f r = never (cc)
-    go false y f r = place (eqb i u) refl
-      where
-        place : (b : Bool) → eqb i u ≡ b → p u ≡ false
-        place true t = sym (ap p (eqb-true i u t)) ∙ y
-        place false t = let ne = eqb-false i u t in r f (omega arith)
-
-pub all-fail : (p : ℕ → Bool) (n : ℕ) → firstBelow n p ≡ none → (u : ℕ) → u < n → p u ≡ false
-all-fail p n e u h = none-here p 0 n u e (omega arith) (omega arith)
 
 -- compute a number that passes if any does, and is no higher; and test it alone
 pub lowest : (p : ℕ → Bool) (n g : ℕ) → g < n → ((u : ℕ) → u < n → p u ≡ true → (g ≤ u) × (p g ≡ true)) → firstBelow n p ≡ choose (p g) (at g) none

@@ -1,6 +1,6 @@
 -- The one place to try: antt computes, at each of the 8192 places, that what a place leaves has a formula's place for its lowest.
 -- Assumes nothing.
-use mathlib.Core.Path.{_≡_, refl, sym, ap, _∙_}
+use mathlib.Core.Path.{_≡_, refl, sym, _∙_}
 use mathlib.Core.Bool.{Bool, true, false}
 use mathlib.Core.Logic.{_≢_}
 use Prim.Native.Nat.{ℕ, _+_, _-_, _*_, _/_, _%_, _<_, _≤_}
@@ -13,7 +13,7 @@ use Rattle.laws.proofs.Range.{values, agree}
 use Rattle.laws.proofs.Search.{lowest}
 use Rattle.laws.proofs.Tests.{both-true}
 use Rattle.immediates.specs.Modified.{constantAt, element, patternIn, needsNonzero}
-use Rattle.immediate_values.specs.Offsets.{byteBits, halfwordOffset, wordOffset}
+use Rattle.immediate_values.specs.Own.{byteBits, halfwordOffset, wordOffset}
 use Rattle.immediate_values.proofs.Immediates.{row-of}
 use Rattle.one_pair.specs.One.{oneAt, oneFor}
 use Rattle.one_pair.specs.Own.{Covers}

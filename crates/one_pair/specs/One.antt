@@ -25,6 +25,7 @@ setting name = either (begins name "vmov") (begins name "vmvn")
 abbrev pub leaves : String → ℕ → ℕ
 leaves name p = choose (begins name "vmvn") (2 ^ 64 - 1 - p) p
 
+-- whether that is v; where there is no pattern, nothing is left
 abbrev pub isLeft : String → Answer ℕ → ℕ → Bool
 isLeft name (accepted p) v = eqb (leaves name p) v
 isLeft name (refused n) v = false

@@ -24,7 +24,7 @@ WorkedPlaces =
     × (oneFor 0xff ≡ at 0x1e01)  -- vmov.i64 #255
     × (oneFor 1 ≡ none)
 
--- what the place t leaves, if it sets; and whether t is the lowest that leaves it, which no place is that does not set
+-- what the place t leaves, if it sets; a place that does not is never found
 abbrev pub leftBy : String → Answer ℕ → ℕ
 leftBy name (accepted p) = leaves name p
 leftBy name (refused n) = 0
@@ -32,10 +32,12 @@ leftBy name (refused n) = 0
 abbrev pub leftAt : ℕ → ℕ
 leftAt t = leftBy (cellAt modimm (bit 12 t) (field 11 8 t)) (expandImm (bit 12 t) (field 11 8 t) (field 7 0 t))
 
+-- t was found
 abbrev pub isAt : ℕ → Found → Bool
 isAt t (at u) = eqb u t
 isAt t none = false
 
+-- how many of the numbers below n pass
 unfoldable pub countBelow : ℕ → (ℕ → Bool) → ℕ
 countBelow zero p = 0
 countBelow (suc n) p = choose (p n) 1 0 + countBelow n p

@@ -1,6 +1,6 @@
 -- A step of each kind: its pairs are written, and at most twenty.
 -- Assumes nothing.
-use mathlib.Core.Path.{_≡_, refl, subst}
+use mathlib.Core.Path.{_≡_, refl}
 use mathlib.Core.Bool.{Bool, true, false}
 use mathlib.Core.Logic.{_≢_}
 use mathlib.Core.List.{List, [], _∷_}
@@ -22,8 +22,8 @@ use Rattle.recipes.specs.Pairs.{immediate, halfPairs, pairTable, pairsBy
 use Rattle.recipes.proofs.Carried.{left-carried, right-carried}
 use Rattle.recipes.proofs.Names.{Known, add-known, sub-known, mul-known, max-known, min-known, greater-known, and-known, orr-known, eor-known, orn-known, bsl-known, left-known, right-known, left-classed, right-classed}
 use Rattle.recipes.proofs.Halves.{half-written, half-few}
-use Rattle.recipes.proofs.Places.{placed, scratch, set-record, set-read}
-use Rattle.recipes.proofs.Writes.{Writes, Is, quad-is, Written, three-writes, copy-writes, shift-writes, written-append}
+use Rattle.recipes.proofs.Places.{scratch, standing-written, set-standing}
+use Rattle.recipes.proofs.Writes.{Is, quad-is, Written, three-writes, copy-writes, shift-writes, written-append}
 
 -- a row as a register
 pub reg : (r : ℕ) → r < 14 → Is true (Q r) (2 * r)
@@ -31,10 +31,6 @@ reg r h = quad-is r (omega arith)
 
 pub q14 : Is true (Q 14) (2 * 14)
 q14 = quad-is 14 (lit< tt)
-
--- a zero in Q14
-clear-written : Writes (twoOf "vmov.i32" (Q 14) (immediate 0))
-clear-written = subst Writes (set-record 0 (lit< tt) (Q 14)) (placed scratch (set-read 0 (lit< tt)))
 
 module _ (s : Step) where
   -- three rows of a name
@@ -75,7 +71,7 @@ module _ (s : Step) where
                 (
                   (λ p. rows-written eor-known _ _ _ (p .target) (p .a) (p .b)),
                   (
-                    (λ p. (clear-written, (three-writes (reg _ (p .target)) q14 (reg _ (p .a)) orn-known, tt))),
+                    (λ p. (standing-written scratch (set-standing 0 (lit< tt)), (three-writes (reg _ (p .target)) q14 (reg _ (p .a)) orn-known, tt))),
                     (
                       (λ p. let c = left-carried (s .width) (s .amount) (p .width) (p .amount) in
                           (shift-writes (s .amount) (c .0) (reg _ (p .target)) (reg _ (p .a)) (left-known (s .width) (p .width)) (left-classed (s .width) (p .width)) (λ q. (refl, refl)) (c .1), tt)),

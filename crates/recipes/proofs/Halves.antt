@@ -1,6 +1,6 @@
 -- A constant's pairs are written, and at most ten a half.
 -- Assumes nothing.
-use mathlib.Core.Path.{_≡_, refl, sym, _∙_, subst}
+use mathlib.Core.Path.{_≡_, refl, sym, _∙_}
 use mathlib.Core.Bool.{Bool, true, false}
 use mathlib.Core.List.{[], _∷_, _++_}
 use Prim.Native.Nat.{ℕ, _*_, _/_, _%_, _^_, _≤_, _<_}
@@ -9,20 +9,15 @@ use lib.Dec.{eqb, lit<}
 use lib.ListN.{length, length-append}
 use borrow.Author.Tests.{eqb-false}
 use Rattle.laws.specs.Choice.{choose}
-use Rattle.insn.specs.declared.Insn.{Insn}
 use Rattle.insn.specs.declared.Operand.the-variants.{D}
 use Rattle.recipes.specs.declared.Recipe.{Recipe}
 use Rattle.recipes.specs.declared.Recipe.the-variants.{One, Twice, Joined}
-use Rattle.recipes.specs.Pairs.{immediate, byteOf, addByte, wordPairs, joinPairs, recipeOf, recordAt, recipePairs, halfPairs, twoOf}
+use Rattle.recipes.specs.Pairs.{immediate, byteOf, addByte, wordPairs, joinPairs, recipeOf, recipePairs, halfPairs, twoOf}
 use Rattle.recipes.proofs.Names.{bif-known}
-use Rattle.recipes.proofs.Places.{Read, placed, double-register, set-record, set-read, zero-byte, join-record, join-read, mask-record, mask-read, one-leaves, leaves-read, one-of}
-use Rattle.recipes.proofs.Writes.{Writes, Written, double-is, three-writes, written-append}
+use Rattle.recipes.proofs.Places.{placed, double-register, standing-written, set-standing, zero-byte, join-standing, mask-standing, one-leaves, leaves-read, one-of}
+use Rattle.recipes.proofs.Writes.{Written, double-is, three-writes, written-append}
 
 module _ (r : ℕ) (hr : r < 32) where
-  -- a record that is a place's
-  at-place : (i : Insn) (t : ℕ) → recordAt (D r) t ≡ i → Read t → Writes i
-  at-place i t e p = subst Writes e (placed (double-register r hr) p)
-
   add-written : (b k : ℕ) → b < 256 → k < 4 → Written (addByte r (b * 2 ^ (8 * k)))
   unfolding addByte
   add-written b k hb hk = go (eqb (b * 2 ^ (8 * k)) 0) refl
@@ -32,22 +27,21 @@ module _ (r : ℕ) (hr : r < 32) where
 
       go : (t : Bool) → eqb byte 0 ≡ t → Written (choose t [] (twoOf "vorr.i32" (D r) (immediate byte) ∷ []))
       go true e = tt
-      go false e = (at-place _ _ (join-record k b hk hb (D r)) (join-read k b hk hb (eqb-false b 0 (sym (zero-byte k b hk hb) ∙ e))), tt)
+      go false e = (standing-written (double-register r hr) (join-standing k b hk hb (eqb-false b 0 (sym (zero-byte k b hk hb) ∙ e))), tt)
 
   word-written : (v : ℕ) → Written (wordPairs r v)
   unfolding wordPairs
-  word-written v =
-      let small : v % 256 < 256 = omega arith in (
-        at-place _ _ (set-record (v % 256) small (D r)) (set-read (v % 256) small),
-        written-append (addByte r (byteOf v 1)) (addByte r (byteOf v 2) ++ addByte r (byteOf v 3)) (add-written (v / 2 ^ 8 % 256) 1 (omega arith) (omega arith))
-            (written-append (addByte r (byteOf v 2)) (addByte r (byteOf v 3)) (add-written (v / 2 ^ 16 % 256) 2 (omega arith) (omega arith))
-            (add-written (v / 2 ^ 24 % 256) 3 (omega arith) (omega arith))),
-      )
+  word-written v = (
+    standing-written (double-register r hr) (set-standing (v % 256) (omega arith)),
+    written-append (addByte r (byteOf v 1)) (addByte r (byteOf v 2) ++ addByte r (byteOf v 3)) (add-written (v / 2 ^ 8 % 256) 1 (omega arith) (omega arith))
+        (written-append (addByte r (byteOf v 2)) (addByte r (byteOf v 3)) (add-written (v / 2 ^ 16 % 256) 2 (omega arith) (omega arith))
+        (add-written (v / 2 ^ 24 % 256) 3 (omega arith) (omega arith))),
+  )
 
 join-written : (r : ℕ) → r < 32 → Written (joinPairs r)
 unfolding joinPairs
 join-written r hr = (
-  at-place 30 (lit< tt) _ _ (mask-record (D 30)) mask-read,
+  standing-written (double-register 30 (lit< tt)) mask-standing,
   (three-writes (double-is r hr) (double-is 28 (lit< tt)) (double-is 30 (lit< tt)) bif-known, tt),
 )
 

@@ -65,7 +65,20 @@ place-writes {quad} {x} {d} {t} i p =
 pub placed : {quad : Bool} {x : Operand} {d t : ℕ} → Register quad x d → Read t → Writes (recordAt x t)
 placed {quad} {x} {d} {t} i p = wrote-as (recordAt x t) (modimmPair t quad d) (place-writes i p)
 
--- the place of a byte in a row of op 0
+-- a name with a number that stands at a place: it is read there, and this is its pattern
+pub record Standing (t : ℕ) (name : String) (v p : ℕ) : Type 0 where
+  pub read : Read t
+  pub spelled : (x : Operand) → recordAt x t ≡ twoOf name x (immediate v)
+  pub expanded : expandImm (bit 12 t) (field 11 8 t) (field 7 0 t) ≡ accepted p
+
+pub standing-writes : {quad : Bool} {x : Operand} {d t v p : ℕ} {name : String} → Register quad x d → Standing t name v p
+    → writing (twoOf name x (immediate v)) ≡ accepted (modimmPair t quad d)
+standing-writes {quad} {x} i s = ap writing (sym (s .spelled x)) ∙ place-writes i (s .read)
+
+pub standing-written : {quad : Bool} {x : Operand} {d t v p : ℕ} {name : String} → Register quad x d → Standing t name v p → Writes (twoOf name x (immediate v))
+standing-written i s = wrote-as _ _ (standing-writes i s)
+
+-- a byte in a row of op 0
 module _ (b c place : ℕ) (name : String) (hb : b < 256) (hc : c < 16) (named : cellAt modimm 0 c ≡ name) (constant : constantAt 0 c ≡ byte 32 place 0) where
   abbrev t : ℕ
   t = c * 256 + b
@@ -79,43 +92,23 @@ module _ (b c place : ℕ) (name : String) (hb : b < 256) (hc : c < 16) (named :
   low : field 7 0 t ≡ b
   low = omega arith
 
-  byte-record : (a : Operand) → recordAt a t ≡ twoOf name a (immediate (b * 2 ^ place))
-  unfolding operandIn element
-  byte-record a = rw (top, middle, low, named, constant) (ap (λ (x : ℕ). twoOf name a (immediate x)) (add-zero (b * 2 ^ place)))
-
-  byte-expands : expandImm (bit 12 t) (field 11 8 t) (field 7 0 t) ≡ accepted (copies 2 32 (b * 2 ^ place))
-  unfolding patternIn element
-  byte-expands = rw (top, middle, low, constant) (ap (λ (x : ℕ). accepted (copies 2 32 x)) (add-zero (b * 2 ^ place)))
-
-  byte-read : eqt name "" ≡ false → zeroRefused c b ≡ false → Read t
-  byte-read filled zero = record { within = omega arith; filled = rw (top, middle, named) filled; zero = rw (middle, low) zero }
+  byte-standing : eqt name "" ≡ false → zeroRefused c b ≡ false → Standing t name (b * 2 ^ place) (copies 2 32 (b * 2 ^ place))
+  unfolding patternIn operandIn element
+  byte-standing filled zero =
+      let same = add-zero (b * 2 ^ place) in
+      record {
+        read = record { within = omega arith; filled = rw (top, middle, named) filled; zero = rw (middle, low) zero };
+        spelled = λ x. rw (top, middle, low, named, constant) (ap (λ (v : ℕ). twoOf name x (immediate v)) same);
+        expanded = rw (top, middle, low, constant) (ap (λ (v : ℕ). accepted (copies 2 32 v)) same);
+      }
 
 -- VMOV.I32 of a byte
-set-cell : cellAt modimm 0 0 ≡ "vmov.i32"
-unfolding modimm
-set-cell = refl
-
-set-constant : constantAt 0 0 ≡ byte 32 0 0
-unfolding constantAt
-set-constant = refl
-
-pub set-record : (b : ℕ) → b < 256 → (a : Operand) → recordAt a b ≡ twoOf "vmov.i32" a (immediate b)
-set-record b h a =
+pub set-standing : (b : ℕ) → b < 256 → Standing b "vmov.i32" b (copies 2 32 b)
+unfolding modimm constantAt needsNonzero
+set-standing b h =
     let here : 0 * 256 + b ≡ b = omega arith in
     let same : b * 2 ^ 0 ≡ b = omega arith in
-    ap (recordAt a) (sym here) ∙ byte-record b 0 0 "vmov.i32" h (lit< tt) set-cell set-constant a ∙ ap (λ (x : ℕ). twoOf "vmov.i32" a (immediate x)) same
-
-pub set-expands : (b : ℕ) → b < 256 → expandImm (bit 12 b) (field 11 8 b) (field 7 0 b) ≡ accepted (copies 2 32 b)
-set-expands b h =
-    let here : 0 * 256 + b ≡ b = omega arith in
-    let same : b * 2 ^ 0 ≡ b = omega arith in
-    rw (here, same) at (byte-expands b 0 0 "vmov.i32" h (lit< tt) set-cell set-constant)
-
-pub set-read : (b : ℕ) → b < 256 → Read b
-unfolding needsNonzero
-set-read b h =
-    let here : 0 * 256 + b ≡ b = omega arith in
-    rw here at (byte-read b 0 0 "vmov.i32" h (lit< tt) set-cell set-constant refl (both-no (eqb b 0)))
+    rw (here, same) at (byte-standing b 0 0 "vmov.i32" h (lit< tt) refl refl refl (both-no (eqb b 0)))
 
 -- VORR.I32 of a byte at bit 8k, not 0
 join-cell : (k : ℕ) → k < 4 → cellAt modimm 0 (2 * k + 1) ≡ "vorr.i32"
@@ -126,15 +119,8 @@ join-constant : (k : ℕ) → k < 4 → constantAt 0 (2 * k + 1) ≡ byte 32 (8 
 unfolding values constantAt
 join-constant = agree (λ (k : ℕ). constantAt 0 (2 * k + 1)) (λ (k : ℕ). byte 32 (8 * k) 0) 4 refl
 
-pub join-record : (k b : ℕ) → k < 4 → b < 256 → (a : Operand) → recordAt a ((2 * k + 1) * 256 + b) ≡ twoOf "vorr.i32" a (immediate (b * 2 ^ (8 * k)))
-join-record k b hk hb = byte-record b (2 * k + 1) (8 * k) "vorr.i32" hb (omega arith) (join-cell k hk) (join-constant k hk)
-
-pub join-expands : (k b : ℕ) → k < 4 → b < 256
-    → expandImm (bit 12 ((2 * k + 1) * 256 + b)) (field 11 8 ((2 * k + 1) * 256 + b)) (field 7 0 ((2 * k + 1) * 256 + b)) ≡ accepted (copies 2 32 (b * 2 ^ (8 * k)))
-join-expands k b hk hb = byte-expands b (2 * k + 1) (8 * k) "vorr.i32" hb (omega arith) (join-cell k hk) (join-constant k hk)
-
-pub join-read : (k b : ℕ) → k < 4 → b < 256 → b ≢ 0 → Read ((2 * k + 1) * 256 + b)
-join-read k b hk hb n = byte-read b (2 * k + 1) (8 * k) "vorr.i32" hb (omega arith) (join-cell k hk) (join-constant k hk) refl (rw (ne-eqb b 0 n))
+pub join-standing : (k b : ℕ) → k < 4 → b < 256 → b ≢ 0 → Standing ((2 * k + 1) * 256 + b) "vorr.i32" (b * 2 ^ (8 * k)) (copies 2 32 (b * 2 ^ (8 * k)))
+join-standing k b hk hb n = byte-standing b (2 * k + 1) (8 * k) "vorr.i32" hb (omega arith) (join-cell k hk) (join-constant k hk) refl (rw (ne-eqb b 0 n))
 
 -- a byte is 0 exactly if it is 0 at its place
 pub zero-byte : (k b : ℕ) → k < 4 → b < 256 → eqb (b * 2 ^ (8 * k)) 0 ≡ eqb b 0
@@ -142,17 +128,9 @@ unfolding values
 zero-byte = agree2 (λ (k b : ℕ). eqb (b * 2 ^ (8 * k)) 0) (λ (k b : ℕ). eqb b 0) 4 256 refl
 
 -- the mask of a low word
-pub mask-record : (a : Operand) → recordAt a 0x1e0f ≡ twoOf "vmov.i64" a (immediate 4294967295)
-unfolding modimm constantAt operandIn element twosComplement
-mask-record a = refl
-
-pub mask-expands : expandImm 1 14 15 ≡ accepted 4294967295
-unfolding constantAt patternIn element
-mask-expands = refl
-
-pub mask-read : Read 0x1e0f
-unfolding modimm needsNonzero
-mask-read = record { within = lit< tt; filled = refl; zero = refl }
+pub mask-standing : Standing 0x1e0f "vmov.i64" 4294967295 4294967295
+unfolding modimm constantAt patternIn operandIn element twosComplement needsNonzero
+mask-standing = record { read = record { within = lit< tt; filled = refl; zero = refl }; spelled = λ x. refl; expanded = refl }
 
 -- the one pair of a half
 pub one-leaves : (v t : ℕ) → oneFor v ≡ at t → Leaves v (bit 12 t) (field 11 8 t) (field 7 0 t) × (t < 8192)

@@ -53,6 +53,7 @@ wordPairs r v = twoOf "vmov.i32" (D r) (immediate (v % 256)) ∷ (addByte r (byt
 unfoldable pub byWords : ℕ → Recipe
 byWords v = choose (eqb (v % 2 ^ 32) (v / 2 ^ 32)) (Twice (v % 2 ^ 32)) (Joined (v % 2 ^ 32) (v / 2 ^ 32))
 
+-- the recipe by what was found
 abbrev pub recipeBy : Found → ℕ → Recipe
 recipeBy (at t) v = One t
 recipeBy none v = byWords v

@@ -1,6 +1,6 @@
 -- The constant's recipe: its pairs are written, and they leave the constant in its half.
 -- Assumes nothing.
-use mathlib.Core.Path.{_≡_, refl, sym, _∙_, ap, subst}
+use mathlib.Core.Path.{_≡_, refl, sym, _∙_, ap}
 use mathlib.Core.Bool.{Bool, true, false}
 use mathlib.Core.Logic.{_≢_}
 use mathlib.Core.List.{List, [], _∷_, _++_}
@@ -16,7 +16,6 @@ use borrow.Author.Tests.{eqb-true, eqb-false, ltb-true}
 use Rattle.laws.specs.Choice.{choose}
 use Rattle.laws.specs.Search.{Found, at, none}
 use Rattle.laws.proofs.Range.{values, agree, agree2}
-use Rattle.insn.specs.declared.Insn.{Insn}
 use Rattle.insn.specs.declared.Operand.{Operand}
 use Rattle.insn.specs.declared.Operand.the-variants.{D}
 use Rattle.immediate_tables.specs.Modimm.{modimm}
@@ -38,10 +37,10 @@ use Rattle.recipes.specs.declared.Recipe.{Recipe}
 use Rattle.recipes.specs.declared.Recipe.the-variants.{One, Twice, Joined}
 use Rattle.recipes.specs.Pairs.{immediate, byteOf, addByte, wordPairs, joinPairs, byWords, recipeBy, recipeOf, recordAt, recipePairs, halfPairs, twoOf}
 use Rattle.recipes.proofs.Names.{bif-known}
-use Rattle.recipes.proofs.Places.{Register, double-register, set-record, set-expands, set-read, zero-byte, join-record, join-expands, join-read, mask-record, mask-expands, mask-read, one-leaves, leaves-read, one-of}
+use Rattle.recipes.proofs.Places.{Register, double-register, set-standing, zero-byte, join-standing, mask-standing, one-leaves, leaves-read, one-of}
 use Rattle.halves.proofs.Places.{patternAt, pattern-at, place-small, one-effect}
 use Rattle.sheet.proofs.Doing.{doing, Does, does-append, doing-cons, doing-nil, doing-append}
-use Rattle.sheet.proofs.Executes.{Executes, double-stands, three-executes, place-executes}
+use Rattle.sheet.proofs.Executes.{Executes, double-stands, three-executes, place-executes, standing-executes}
 use Rattle.sheet.proofs.Names.{bif-means}
 use Rattle.sheet.proofs.Rows.{paired-set, take-paired}
 
@@ -102,11 +101,10 @@ mask-op = refl
 -- VMOV.I32 of a byte
 pub set-executes : {quad : Bool} {x : Operand} {d : ℕ} (b : ℕ) → b < 256 → Register quad x d
     → Executes (twoOf "vmov.i32" x (immediate b)) (act (Constant Mov (twice b)) (registers quad d d d))
-set-executes {quad} {x} {d} b h i =
+set-executes b h i =
     let top : bit 12 b ≡ 0 = omega arith in
     let middle : field 11 8 b ≡ 0 = omega arith in
-    subst (λ (j : Insn). Executes j (act (Constant Mov (twice b)) (registers quad d d d))) (set-record b h x)
-    (place-executes Mov (twice b) i (set-read b h) (rw (top, middle) set-op) (set-expands b h))
+    standing-executes Mov i (set-standing b h) (rw (top, middle) set-op)
 
 -- the recipe's pairs do this
 module _ (r : ℕ) (hr : r < 32) where
@@ -121,8 +119,7 @@ module _ (r : ℕ) (hr : r < 32) where
       joins n =
           let top : bit 12 ((2 * k + 1) * 256 + b) ≡ 0 = omega arith in
           let middle : field 11 8 ((2 * k + 1) * 256 + b) ≡ 2 * k + 1 = omega arith in
-          subst (λ (j : Insn). Executes j (joinWord r (b * 2 ^ (8 * k)))) (join-record k b hk hb (D r))
-          (place-executes Orr (twice (b * 2 ^ (8 * k))) (double-register r hr) (join-read k b hk hb n) (rw (top, middle) (join-op k hk)) (join-expands k b hk hb))
+          standing-executes Orr (double-register r hr) (join-standing k b hk hb n) (rw (top, middle) (join-op k hk))
 
       go : (t : Bool) → eqb byte 0 ≡ t → Does (choose t [] (twoOf "vorr.i32" (D r) (immediate byte) ∷ [])) (choose t [] (joinWord r byte ∷ []))
       go true e = tt
@@ -140,15 +137,10 @@ module _ (r : ℕ) (hr : r < 32) where
     ),
   )
 
-mask-executes : Executes (twoOf "vmov.i64" (D 30) (immediate 4294967295)) setMask
-mask-executes =
-    subst (λ (j : Insn). Executes j setMask) (mask-record (D 30))
-    (place-executes Mov 4294967295 (double-register 30 (lit< tt)) mask-read mask-op mask-expands)
-
 join-does : (r : ℕ) → r < 32 → Does (joinPairs r) (setMask ∷ joinHalves r ∷ [])
 unfolding joinPairs meaningIn
 join-does r hr = (
-  mask-executes,
+  standing-executes Mov (double-register 30 (lit< tt)) mask-standing mask-op,
   (lit< tt, (three-executes (double-stands r hr) (double-stands 28 (lit< tt)) (double-stands 30 (lit< tt)) (Bits Bif) (λ z n m. refl) bif-known bif-means refl refl, (tt, tt))),
 )
 

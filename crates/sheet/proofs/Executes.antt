@@ -1,6 +1,6 @@
 -- Records whose pair does an operation on registers.
 -- Assumes nothing.
-use mathlib.Core.Path.{_≡_, refl, ap, _∙_}
+use mathlib.Core.Path.{_≡_, refl, ap, _∙_, subst}
 use mathlib.Core.Bool.{Bool, true, false}
 use Prim.Native.Nat.{ℕ, _*_, _≤_, _<_}
 use Prim.Native.String.{String}
@@ -36,10 +36,10 @@ use Rattle.meanings.specs.Meaning.{Act, act, registers, on, wholePattern, shift
 use Rattle.meanings.proofs.Actions.{on-alike}
 use Rattle.effects.specs.Effect.{effect}
 use Rattle.machine.specs.Step.{stepBy, stepPair}
-use Rattle.recipes.specs.Pairs.{twoOf, threeOf, recordAt}
+use Rattle.recipes.specs.Pairs.{immediate, twoOf, threeOf, recordAt}
 use Rattle.recipes.proofs.Names.{Known, Classed, copy-known}
 use Rattle.recipes.proofs.Writes.{Writes, Is, quad-is, double-is, Alike, three-writes, copy-writes, shift-writes}
-use Rattle.recipes.proofs.Places.{Read, Register, placed}
+use Rattle.recipes.proofs.Places.{Read, Register, Standing, placed}
 use Rattle.read_meanings.specs.Constants.{opAt}
 use Rattle.halves.proofs.Places.{place-steps}
 use Rattle.sheet.proofs.Back.{three-back, two-back}
@@ -120,3 +120,9 @@ place-executes {quad} {x} {d} {t} op p i r same e =
       writes = placed i r;
       stepped = λ s. rw (← same) (place-steps i r p e (placed i r) s);
     }
+
+-- a name with a number that stands there
+pub standing-executes : {quad : Bool} {x : Operand} {d t v p : ℕ} {name : String} (op : ConstantOp) → Register quad x d → Standing t name v p
+    → opAt (bit 12 t) (field 11 8 t) ≡ op → Executes (twoOf name x (immediate v)) (act (Constant op p) (registers quad d d d))
+standing-executes {quad} {x} {d} {t} {v} {p} op i s same =
+    subst (λ (j : Insn). Executes j (act (Constant op p) (registers quad d d d))) (s .spelled x) (place-executes op p i (s .read) same (s .expanded))

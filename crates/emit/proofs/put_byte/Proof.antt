@@ -5,10 +5,9 @@ use Prim.Native.Nat.{_%_, _<_}
 use native.Mathlib.Omega.{arith}
 use borrow.Author.Needs.{needs}
 use borrow.Author.Tests.{eq-eqb, ne-eqb}
-use Rattle.insn.specs.declared.Operand.the-variants.{D}
 use Rattle.recipes.specs.Pairs.{addByte}
-use Rattle.recipes.proofs.Places.{double-register, zero-byte, join-record, join-read}
-use Rattle.emit.proofs.Puts.{put-none, put-at}
+use Rattle.recipes.proofs.Places.{double-register, standing-writes, zero-byte, join-standing}
+use Rattle.emit.proofs.Puts.{put-none, put-as}
 use Rattle.emit.proofs.put_byte.Statement.{statement}
 use Rattle.emit.proofs.put_byte.Tie as tie
 
@@ -28,7 +27,7 @@ returns-2 c =
     let small : b < 256 = omega arith in
     let not-0 = c .before .before .before .before .if1 .left in
     rw (zero-byte k b hk small ∙ ne-eqb b 0 not-0)
-    (put-at _ (double-register (s .args .r) (s .pre .1 .0)) (join-read k b hk small not-0) (join-record k b hk small (D (s .args .r))) (c .before .before .put-place .ensures))
+    (put-as _ _ (standing-writes (double-register (s .args .r) (s .pre .1 .0)) (join-standing k b hk small not-0)) (c .before .before .put-place .ensures))
 
 pub put-byte-spec : {M : Type 1} → statement M
 put-byte-spec =

@@ -1,12 +1,12 @@
 -- `emit::put_half` meets its contract.
 -- Assumes nothing.
-use mathlib.Core.Path.{refl, sym, _∙_}
+use mathlib.Core.Path.{sym, _∙_}
 use native.Mathlib.Omega.{arith}
 use borrow.Author.Needs.{needs}
 use Rattle.laws.proofs.Placed.{widen}
 use Rattle.recipes.specs.Pairs.{recipePairs}
-use Rattle.recipes.proofs.Places.{double-register, one-leaves, leaves-read, one-of}
-use Rattle.emit.proofs.Puts.{put-at, put-then}
+use Rattle.recipes.proofs.Places.{double-register, place-writes, one-leaves, leaves-read, one-of}
+use Rattle.emit.proofs.Puts.{put-as, put-then}
 use Rattle.emit.proofs.put_half.Statement.{statement}
 use Rattle.emit.proofs.put_half.Tie as tie
 
@@ -16,7 +16,7 @@ returns c =
     let s = c .before .before .before .before .before .before .before .before .before in
     let e = sym (c .before .before .before .before .before .before .before .recipe-of .ensures) ∙ c .before .before .before .before .before .half .given .1 in
     let o = one-leaves (s .args .v) _ (one-of (s .args .v) _ e) in
-    rw e (widen (omega arith) (put-at _ (double-register (s .args .r) (s .pre .1)) (leaves-read (s .args .v) _ (o .1) (o .0)) refl (c .before .before .put-place .ensures)))
+    rw e (widen (omega arith) (put-as _ _ (place-writes (double-register (s .args .r) (s .pre .1)) (leaves-read (s .args .v) _ (o .1) (o .0))) (c .before .before .put-place .ensures)))
 
 returns-2 : tie.Need-returns-2
 unfolding recipePairs

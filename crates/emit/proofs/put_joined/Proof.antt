@@ -2,17 +2,16 @@
 -- Assumes nothing.
 use lib.Dec.{lit<}
 use borrow.Author.Needs.{needs}
-use Rattle.insn.specs.declared.Operand.the-variants.{D}
 use Rattle.recipes.specs.Pairs.{joinPairs}
-use Rattle.recipes.proofs.Places.{double-register, mask-record, mask-read}
-use Rattle.emit.proofs.Puts.{put-at, put-then}
+use Rattle.recipes.proofs.Places.{double-register, standing-writes, mask-standing}
+use Rattle.emit.proofs.Puts.{put-as, put-then}
 use Rattle.emit.proofs.put_joined.Statement.{statement}
 use Rattle.emit.proofs.put_joined.Tie as tie
 
 returns : tie.Need-returns
 unfolding joinPairs
 returns c =
-    let mask = put-at _ (double-register 30 (lit< tt)) mask-read (mask-record (D 30)) (c .before .before .before .before .before .before .before .put-place .ensures) in
+    let mask = put-as _ _ (standing-writes (double-register 30 (lit< tt)) mask-standing) (c .before .before .before .before .before .before .before .put-place .ensures) in
     put-then _ _ mask (rw (c .before .before .before .join-words .ensures) at (c .before .before .put .ensures))
 
 pub put-joined-spec : {M : Type 1} → statement M
