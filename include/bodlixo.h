@@ -20,7 +20,9 @@
                 11  an odd count of halfwords, a file that is not of 32, or a start past the end
                 15  pairs remain and the budget is used up
     sheets      12  a length that is no multiple of 24, or above 6144
-                13  a step breaks the rules; the first that does is named
+                13  a step breaks the rules
+                16  a step reads a row that is neither in the list of filled rows nor a target of an earlier step
+                    (steps are tested in order, each for 13 and then 16; the first fault found is the answer)
     all outputs 14  the output is too short
 
    A record is ten words: mnemonic, mark (1 or 2), address, count, then kind and value of each of three places.
@@ -52,16 +54,19 @@ uint32_t bodlixo_write(uint32_t edition, const uint64_t record[10], uint16_t pai
 uint32_t bodlixo_run(const uint16_t *code, size_t len, uint64_t start, uint64_t *file, size_t file_len, uint64_t budget,
                      uint8_t *mark, uint64_t *executed);
 
-/* Translates a sum sheet of `len` bytes into `out`. `*at` is the pair count; or, after a refusal, which leaves `out`
-   untouched, the index of the step where the refusal has one, else 0. 10240 halfwords are always enough. */
-uint32_t bodlixo_translate(const uint8_t *sheet, size_t len, uint16_t *out, size_t out_len, uint64_t *at);
+/* Translates a sum sheet of `len` bytes into `out`. `filled` is the list of the rows that were filled beforehand, row r at
+   bit r: 0x3fff is all of them, and bits 14 and 15 are ignored. `*at` is the pair count; or, after a refusal, which leaves
+   `out` untouched, the index of the step where the refusal has one, else 0. 10240 halfwords are always enough. */
+uint32_t bodlixo_translate(const uint8_t *sheet, size_t len, uint16_t filled, uint16_t *out, size_t out_len,
+                           uint64_t *at);
 
 /* Translates a sum sheet into `out`, and runs its pairs on `file` from the first. A sheet that is refused leaves `out`
-   and `file` untouched, with `*executed` 0. `*at` is as in bodlixo_translate, and `*executed` as in bodlixo_run. Row r
+   and `file` untouched, with `*executed` 0. `filled` and `*at` are as in bodlixo_translate, `*executed` as in bodlixo_run. Row r
    of the sheet is file[2 * r], low, and file[2 * r + 1]. No pair of a sheet moves a lane to an end: `*mark` comes out as
    it came in, as 0 or 1, whatever the answer. */
-uint32_t bodlixo_evaluate(const uint8_t *sheet, size_t len, uint16_t *out, size_t out_len, uint64_t *file,
-                          size_t file_len, uint64_t budget, uint8_t *mark, uint64_t *executed, uint64_t *at);
+uint32_t bodlixo_evaluate(const uint8_t *sheet, size_t len, uint16_t filled, uint16_t *out, size_t out_len,
+                          uint64_t *file, size_t file_len, uint64_t budget, uint8_t *mark, uint64_t *executed,
+                          uint64_t *at);
 
 /* Lists the pairs of `len` bytes in `out`, with the totals as the last line, and puts the listing's size in bytes in
    *size. An out that is shorter than the listing is left untouched, and the answer is 14 with *size 0; 901190 bytes are

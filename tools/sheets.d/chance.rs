@@ -1,11 +1,11 @@
-//! Random steps, sheets and files; every run has the same ones.
+//! Random steps, sheets, lists of filled rows and files; every run has the same ones.
 
-use crate::model::uses;
+use crate::model::{uses, EVERY_MARK, EVERY_ROW};
 use crate::pairs::expanded;
 use crate::step::{Step, STEP};
 
 /// A stream of numbers that look random (splitmix64).
-#[derive(Default)]
+#[derive(Clone, Default)]
 pub struct Chance(pub u64);
 
 impl Chance {
@@ -31,6 +31,28 @@ impl Chance {
     /// A saturation mark: no, or one of the bytes that stand for yes.
     pub fn mark(&mut self) -> u8 {
         self.one(&[0, 0, 0, 1, 1, 2, 128, 255])
+    }
+
+    /// A list of filled rows for a sheet that needs these: its sort, by the arms below, and the list.
+    pub fn list(&mut self, needed: u16) -> (usize, u16) {
+        let sort = self.one(&[0, 0, 1, 1, 2, 3, 3, 3, 4, 4, 5, 5, 6, 7, 8, 9]);
+        let rows: Vec<u16> = (0..14).map(|r| 1 << r).filter(|row| needed & row != 0).collect();
+        let one = if rows.is_empty() { 0 } else { self.one(&rows) };
+        let above = self.one(&[0x4000, 0x8000, 0xc000]);
+        let any = self.word() as u16;
+        let list = match sort {
+            0 => EVERY_ROW,
+            1 => EVERY_MARK,
+            2 => 0,
+            3 => needed,
+            4 => needed & !one,
+            5 => needed | above,
+            6 => above,
+            7 => any,
+            8 => EVERY_MARK & !one,
+            _ => needed | any,
+        };
+        (sort, list)
     }
 
     /// 64 bits: any, or lanes at the ends of their range.

@@ -4,7 +4,7 @@ use crate::answers::{self, LONGEST};
 use crate::boundary;
 use crate::chance::{sheet_of, Chance};
 use crate::counts::Counts;
-use crate::model::{self, uses};
+use crate::model::{self, uses, EVERY_MARK, EVERY_ROW};
 use crate::pairs::{code_of, of_half, Pair};
 use crate::report::Report;
 use crate::step::{steps_of, Step, STEP};
@@ -32,16 +32,18 @@ const REFUSED: [([u16; 2], u32); 12] = [
 #[derive(Default)]
 pub struct Compared {
     pub report: Report,
-    counts: Counts,
-    evaluations: u64,
+    pub counts: Counts,
+    /// The sheets so far.
+    pub sheets: u64,
     /// The chances of the marks, which change no other case.
     marks: Chance,
 }
 
-/// The output that ours leaves, and what the model gives.
+/// The answer and the output of ours, and what the model gives.
 pub struct Translation {
-    out: Vec<u16>,
-    due: Result<Vec<Pair>, (u32, u64)>,
+    pub ours: (u32, u64),
+    pub out: Vec<u16>,
+    pub due: Result<Vec<Pair>, (u32, u64)>,
 }
 
 pub fn compare(count: usize) -> ExitCode {
@@ -57,7 +59,8 @@ pub fn compare(count: usize) -> ExitCode {
 }
 
 impl Compared {
-    /// One sheet: valid, with bytes damaged, or of any bytes; some then of a wrong length.
+    /// One sheet: valid, with bytes damaged, or of any bytes; some then of a wrong length. It is compared with every
+    /// row filled, then with a list of its own.
     fn sheet(&mut self, chance: &mut Chance) {
         let count = chance.count();
         let steps = chance.steps(count);
@@ -73,17 +76,22 @@ impl Compared {
             _ => {}
         }
         self.counts.add("sheets made (0 valid, 1 a byte replaced, 2 two bytes, 3 any bytes)", sort);
+        let needed = model::needed(&steps_of(&sheet));
         if chance.once_in(16) {
             wrong_length(chance, &mut sheet);
         }
-        self.translated(chance, &sheet);
-        self.evaluated(&sheet);
+        self.sheets += 1;
+        let every = if self.sheets % 2 == 0 { EVERY_ROW } else { EVERY_MARK };
+        self.translated(chance, &sheet, every);
+        let answer = self.evaluated(&mut Chance(self.sheets << 32), &sheet, every);
+        self.counts.add("evaluation answers", answer.into());
+        self.listed(&sheet, needed);
     }
 
     /// One byte replaced.
     fn damaged(&mut self, chance: &mut Chance, steps: &[Step], sheet: &mut [u8]) {
         let (at, byte) = chance.damage(sheet);
-        if let Err((13, _)) = answers::translation(sheet, usize::MAX) {
+        if let Err((13, _)) = answers::translation(sheet, EVERY_ROW, usize::MAX) {
             self.counts.add("refused for the byte", byte as u64);
             self.counts.saw("kinds and bytes refused", &[steps[at].kind, byte as u8]);
             self.counts.saw("kinds, bytes and values refused", &[steps[at].kind, byte as u8, sheet[STEP * at + byte]]);
@@ -91,13 +99,11 @@ impl Compared {
     }
 
     /// A sheet translated into an output of some length; then its runs.
-    fn translated(&mut self, chance: &mut Chance, sheet: &[u8]) {
-        let need = match answers::translation(sheet, usize::MAX) {
-            Ok(pairs) => 2 * pairs.len(),
-            Err(_) => chance.below(64),
-        };
+    fn translated(&mut self, chance: &mut Chance, sheet: &[u8], filled: u16) {
+        let need = need(chance, sheet);
         let room = room(chance, need);
-        let Translation { out, due } = self.translation(chance, sheet, room);
+        let Translation { out, due, .. } = self.translation(chance, sheet, filled, room);
+        self.counts.add("translation answers", number(&due));
         if let Err((14, _)) = due {
             self.counts.add("halfwords missing at 14 (9: more)", (need - room).min(9) as u64);
         }
@@ -109,10 +115,10 @@ impl Compared {
     }
 
     /// One translation into so many halfwords compared.
-    pub fn translation(&mut self, chance: &mut Chance, sheet: &[u8], room: usize) -> Translation {
+    pub fn translation(&mut self, chance: &mut Chance, sheet: &[u8], filled: u16, room: usize) -> Translation {
         let mut out: Vec<u16> = (0..room + BEYOND).map(|_| chance.word() as u16).collect();
         let mut due_out = out.clone();
-        let due = answers::translation(sheet, room);
+        let due = answers::translation(sheet, filled, room);
         let answer = match &due {
             Ok(pairs) => (0, pairs.len() as u64),
             Err(refusal) => *refusal,
@@ -120,46 +126,53 @@ impl Compared {
         if let Ok(pairs) = &due {
             due_out[..2 * pairs.len()].copy_from_slice(&code_of(pairs));
         }
-        let ours = boundary::translate(sheet, &mut out[..room]);
-        self.report.expect(ours, answer, || format!("translation of {sheet:x?} into {room}"));
-        self.report.expect(&out, &due_out, || format!("output of {sheet:x?} in {room}"));
-        self.counts.add("translation answers", answer.0.into());
-        Translation { out, due }
+        let ours = boundary::translate(sheet, filled, &mut out[..room]);
+        self.report.expect(ours, answer, || format!("translation of {sheet:x?} with {filled:04x} into {room}"));
+        self.report.expect(&out, &due_out, || format!("output of {sheet:x?} with {filled:04x} in {room}"));
+        Translation { ours, out, due }
     }
 
-    /// The sheet translated and run by one call. Its chances are its own, so that it changes no other case.
-    fn evaluated(&mut self, sheet: &[u8]) {
-        self.evaluations += 1;
-        let mut chance = Chance(self.evaluations << 32);
-        let n = answers::translation(sheet, usize::MAX).map_or(0, |pairs| pairs.len());
-        let room = room(&mut chance, 2 * n);
+    /// The sheet translated and run by one call; the number due. Its chances are its own and change no other case.
+    pub fn evaluated(&mut self, chance: &mut Chance, sheet: &[u8], filled: u16) -> u32 {
+        let n = answers::count(sheet).unwrap_or(0);
+        let room = room(chance, 2 * n);
         let budget = chance.one(&[n, n, n, n + 1, n / 2, n.saturating_sub(1), 0, usize::MAX]) as u64;
         let words = chance.one(&[32, 32, 32, 32, 32, 32, 32, 31, 33, 0]);
-        self.evaluation(&mut chance, sheet, room, budget, words);
+        self.evaluation(chance, sheet, filled, room, budget, words)
     }
 
-    /// One evaluation into so many halfwords, on a file of so many words, compared.
-    pub fn evaluation(&mut self, chance: &mut Chance, sheet: &[u8], room: usize, budget: u64, words: usize) {
+    /// One evaluation into so many halfwords, on a file of so many words, compared; the number due.
+    pub fn evaluation(
+        &mut self,
+        chance: &mut Chance,
+        sheet: &[u8],
+        filled: u16,
+        room: usize,
+        budget: u64,
+        words: usize,
+    ) -> u32 {
         let file: Vec<u64> = (0..words).map(|_| chance.doubleword()).collect();
         let mut left = file.clone();
         let mut out: Vec<u16> = (0..room + BEYOND).map(|_| chance.word() as u16).collect();
         let mut due_out = out.clone();
-        if let Ok(pairs) = answers::translation(sheet, room) {
+        if let Ok(pairs) = answers::translation(sheet, filled, room) {
             due_out[..2 * pairs.len()].copy_from_slice(&code_of(&pairs));
         }
         let mark = self.mark();
-        let due = answers::evaluation(sheet, room, &file, budget);
-        let (answer, at, executed, marked) = boundary::evaluate(sheet, &mut out[..room], &mut left, budget, mark);
-        let case = || format!("evaluation of {sheet:x?} into {room} with {budget} on {file:x?}, mark {mark}");
+        let due = answers::evaluation(sheet, filled, room, &file, budget);
+        let ours = boundary::evaluate(sheet, filled, &mut out[..room], &mut left, budget, mark);
+        let (answer, at, executed, marked) = ours;
+        let call = || format!("evaluation of {sheet:x?} with {filled:04x} into {room}");
+        let case = || format!("{} with {budget} on {file:x?}, mark {mark}", call());
         let due_mark = answers::mark(mark);
         self.report.expect((answer, at, executed, &left, marked), (due.0, due.1, due.2, &due.3, due_mark), case);
-        self.report.expect(&out, &due_out, || format!("output of the evaluation of {sheet:x?} in {room}"));
+        self.report.expect(&out, &due_out, || format!("output of the {}", call()));
         if let (0, Ok(file), Ok(left)) = (due.0, <&[u64; 32]>::try_from(&file[..]), <&[u64; 32]>::try_from(&left[..])) {
             let rows = model::meaning(&steps_of(sheet), model::rows_of(file));
-            self.report.expect(model::rows_of(left), rows, || format!("rows of the evaluation of {sheet:x?}"));
+            self.report.expect(model::rows_of(left), rows, || format!("rows of the {}", call()));
         }
-        self.counts.add("evaluation answers", due.0.into());
         self.counts.add("evaluations with a mark of", mark.into());
+        due.0
     }
 
     /// The mark that the next call is handed.
@@ -172,7 +185,7 @@ impl Compared {
         let size = [0, 1, 8, 40, 255, 256].into_iter().find(|n| steps.len() <= *n).expect("at most 256");
         self.counts.add("translated sheets, steps up to", size as u64);
         for step in steps {
-            let Step { kind, target, a, b, c, width, amount, sign, low, high } = *step;
+            let Step { kind, target, width, amount, sign, low, high, .. } = *step;
             self.counts.add("steps of kind", kind.into());
             self.counts.saw("kinds with width and sign", &[kind, width, sign]);
             if uses(kind, 'l') || uses(kind, 'r') {
@@ -181,9 +194,7 @@ impl Compared {
             if kind == 0 {
                 self.halves(low, high);
             }
-            let rows = [('a', a), ('b', b), ('c', c)];
-            let used: Vec<_> = rows.iter().filter(|(letter, _)| uses(kind, *letter)).map(|r| r.1).collect();
-            let rows = [vec![target], used].concat();
+            let rows = [vec![target], step.reads().map(|(_, row)| row).collect()].concat();
             let first = |row: &u8| rows.iter().position(|other| other == row).expect("itself") as u8;
             let form = [vec![kind], rows.iter().map(first).collect()].concat();
             self.counts.saw("kinds with agreements among their rows", &form);
@@ -307,8 +318,18 @@ fn wrong_length(chance: &mut Chance, sheet: &mut Vec<u8>) {
     }
 }
 
+/// The number of an answer, 0 for pairs.
+pub fn number(due: &Result<Vec<Pair>, (u32, u64)>) -> u64 {
+    due.as_ref().err().map_or(0, |(answer, _)| u64::from(*answer))
+}
+
+/// The halfwords that a sheet needs once every row is filled; any few for one with another fault.
+pub fn need(chance: &mut Chance, sheet: &[u8]) -> usize {
+    answers::count(sheet).map_or_else(|| chance.below(64), |pairs| 2 * pairs)
+}
+
 /// An output's length around the need.
-fn room(chance: &mut Chance, need: usize) -> usize {
+pub fn room(chance: &mut Chance, need: usize) -> usize {
     let more = chance.below(100);
     let less = chance.below(need + 1);
     match chance.below(16) {

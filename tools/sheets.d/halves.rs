@@ -3,6 +3,7 @@
 use crate::answers;
 use crate::chance::{sheet_of, Chance};
 use crate::compare::Compared;
+use crate::model::EVERY_MARK;
 use crate::pairs::ones;
 use crate::step::Step;
 use std::collections::BTreeSet;
@@ -51,10 +52,10 @@ impl Compared {
     /// A sheet of this step into an output that is long enough, one a halfword short and one longer; its pairs.
     fn constant(&mut self, chance: &mut Chance, step: Step) -> usize {
         let sheet = sheet_of(&[step]);
-        let n = answers::translation(&sheet, usize::MAX).map_or(0, |pairs| pairs.len());
-        self.translation(chance, &sheet, 2 * n);
-        self.translation(chance, &sheet, 2 * n - 1);
-        self.evaluation(chance, &sheet, 2 * n + 2, n as u64, 32);
+        let n = answers::count(&sheet).unwrap_or(0);
+        self.translation(chance, &sheet, EVERY_MARK, 2 * n);
+        self.translation(chance, &sheet, EVERY_MARK, 2 * n - 1);
+        self.evaluation(chance, &sheet, EVERY_MARK, 2 * n + 2, n as u64, 32);
         n
     }
 }

@@ -7,6 +7,7 @@ mod compare;
 mod counts;
 mod emulate;
 mod halves;
+mod lists;
 mod means;
 mod model;
 mod pairs;

@@ -1,9 +1,17 @@
-//! What a sum sheet says, by document 01 alone: the step rules, and the rows by whole numbers. It knows no pair.
+//! What a sum sheet says, by documents 01 and 02 alone: the step rules, the rows that steps read and that are filled,
+//! and the rows by whole numbers. It knows no pair.
 
 use crate::step::Step;
 
 /// The 14 rows, 128 bits each.
 pub type Rows = [u128; 14];
+
+/// Which of the 14 rows are filled.
+pub type Filled = [bool; 14];
+
+/// The list that names every row, and the one with every mark.
+pub const EVERY_ROW: u16 = 0x3fff;
+pub const EVERY_MARK: u16 = 0xffff;
 
 /// What each kind uses: a, b, c; w a width code to 3, n one to 2; l an amount to w - 1, r one to w;
 /// s the sign; k the two words.
@@ -46,6 +54,24 @@ impl Step {
             && (uses('k') || (self.low == 0 && self.high == 0))
     }
 
+    /// The rows that the step reads, each with its letter: those that its kind uses.
+    pub fn reads(&self) -> impl Iterator<Item = (char, u8)> {
+        let kind = self.kind;
+        [('a', self.a), ('b', self.b), ('c', self.c)].into_iter().filter(move |(letter, _)| uses(kind, *letter))
+    }
+
+    /// The rows that the step reads and nobody filled.
+    pub fn missing<'a>(&self, filled: &'a Filled) -> impl Iterator<Item = (char, u8)> + 'a {
+        self.reads().filter(|(_, row)| filled.get(usize::from(*row)) == Some(&false))
+    }
+
+    /// The step's target is filled after it.
+    pub fn fill(&self, filled: &mut Filled) {
+        if let Some(row) = filled.get_mut(usize::from(self.target)) {
+            *row = true;
+        }
+    }
+
     /// The value that the step puts in its target.
     fn value(&self, rows: &Rows) -> u128 {
         let row = |r: u8| rows[usize::from(r)];
@@ -86,6 +112,21 @@ impl Step {
         let put = |at: u32| (f(lane(a, at), lane(b, at)).rem_euclid(modulus) as u128) << at;
         (0..128).step_by(w as usize).map(put).sum()
     }
+}
+
+/// The rows that a list names, row r at bit r; its marks above row 13 name none.
+pub fn filled_by(list: u16) -> Filled {
+    std::array::from_fn(|r| list >> r & 1 == 1)
+}
+
+/// The list of the rows that some step reads before any step has set them.
+pub fn needed(steps: &[Step]) -> u16 {
+    let (mut set, mut list) = (filled_by(0), 0);
+    for step in steps {
+        list |= step.missing(&set).fold(0, |rows, (_, row)| rows | 1 << row);
+        step.fill(&mut set);
+    }
+    list
 }
 
 /// The rows of a file.

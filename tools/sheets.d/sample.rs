@@ -1,10 +1,10 @@
-//! The sample that crates/sheet_test replays: the document's edges, then random sheets. Two lines a case; the model
-//! gives the answers.
+//! The sample that crates/sheet_test replays: the document's edges, random sheets, then lists of filled rows. Two lines
+//! a case; the model gives the answers.
 
 use crate::answers;
 use crate::chance::{sheet_of, Chance};
 use crate::halves::constants;
-use crate::model::uses;
+use crate::model::{needed, uses, EVERY_MARK, EVERY_ROW};
 use crate::pairs::code_of;
 use crate::step::{Step, STEP};
 use std::process::ExitCode;
@@ -13,7 +13,7 @@ use std::process::ExitCode;
 const BEFORE: u16 = 0x5555;
 const HALFWORDS: usize = 10304;
 
-/// Random cases after the edges.
+/// Random cases after the edges, and as many with lists.
 const RANDOM: usize = 40;
 
 /// A kind, a byte of its step and a value that breaks a rule.
@@ -39,9 +39,58 @@ const HALVES: [u64; 42] = [
     0xa501_0000_a501_0000,
 ];
 
-/// How a case's sheet is handed in; what is left out is as much as is needed.
+/// Sheets of steps by kind, target, a, b and c, each with lists of filled rows.
+#[rustfmt::skip]
+const LISTED: [(&[[u8; 5]], &[u16]); 34] = [
+    // no step; a constant alone; a sheet that reads only what it set
+    (&[], &[0, 0xc000, EVERY_ROW]),
+    (&[[0, 5, 0, 0, 0]], &[0, 0x0020]),
+    (&[[0, 5, 0, 0, 0], [0, 0, 0, 0, 0]], &[0]),
+    (&[[0, 1, 0, 0, 0], [2, 1, 1, 1, 0], [8, 2, 1, 0, 0], [14, 1, 1, 2, 2], [1, 13, 1, 0, 0]], &[0, 0xc000]),
+    // two rows and three: both, each missing alone, none; marks 14 and 15 alone, and beside what is needed
+    (&[[2, 2, 0, 1, 0]], &[0x0003, 0x0001, 0x0002, 0, 0x4000, 0x8000, 0xc000, 0xc003, 0x8003, 0xc002]),
+    (&[[2, 2, 0, 1, 0]], &[EVERY_ROW, EVERY_MARK, 0x3ffc, 0xfffc]),
+    (&[[14, 13, 10, 11, 12]], &[0x1c00, 0x1800, 0x1400, 0x0c00, 0x0400, 0x2000, 0xe000, 0xdc00]),
+    // one row twice, and three times
+    (&[[7, 2, 9, 9, 0]], &[0x0200, 0xfdff]),
+    (&[[14, 2, 9, 9, 9]], &[0x0200, 0xfdff]),
+    (&[[14, 2, 9, 8, 9]], &[0x0300, 0x0200, 0x0100]),
+    // the target itself by a, by b, by c, by all; not filled and filled, also by the step before
+    (&[[1, 5, 5, 0, 0]], &[0, 0x0020]),
+    (&[[3, 3, 3, 4, 0]], &[0x0010, 0x0018]),
+    (&[[3, 3, 4, 3, 0]], &[0x0010, 0x0018]),
+    (&[[14, 6, 4, 5, 6]], &[0x0030, 0x0070]),
+    (&[[14, 6, 6, 6, 6]], &[0xffbf, 0x0040]),
+    (&[[0, 5, 0, 0, 0], [2, 5, 5, 5, 0]], &[0]),
+    (&[[1, 6, 7, 0, 0], [2, 6, 6, 7, 0], [2, 6, 6, 6, 0]], &[0x0080, 0x0040]),
+    // a row filled by the step before, by one long before, by a step after
+    (&[[0, 7, 0, 0, 0], [1, 8, 7, 0, 0]], &[0, 0x0100]),
+    (&[[0, 7, 0, 0, 0], [0, 6, 0, 0, 0], [0, 5, 0, 0, 0], [5, 7, 6, 7, 0], [14, 4, 5, 6, 7]], &[0]),
+    (&[[1, 8, 7, 0, 0], [0, 7, 0, 0, 0]], &[0, 0x0100, 0x0080]),
+    (&[[0, 7, 0, 0, 0], [2, 9, 7, 8, 0], [0, 8, 0, 0, 0]], &[0, 0x0080, 0x0100]),
+    // what a kind does not use is 0, and reads no row 0; what it uses does
+    (&[[0, 3, 0, 0, 0]], &[0xfffe]),
+    (&[[1, 3, 4, 0, 0], [8, 3, 4, 0, 0], [9, 3, 4, 0, 0], [10, 3, 4, 0, 0]], &[0x0010, 0xfffe]),
+    (&[[1, 3, 0, 0, 0]], &[0xfffe, 0x0001]),
+    (&[[11, 3, 4, 0, 0]], &[0xfffe, 0x0011]),
+    (&[[14, 3, 4, 5, 0]], &[0xfffe, 0x0031]),
+    // 13 and 16 in one step; 13 whatever the marks above row 13 say
+    (&[[2, 14, 0, 1, 0]], &[0, 0x0003]),
+    (&[[15, 0, 1, 2, 3]], &[0, EVERY_MARK]),
+    (&[[1, 0, 14, 0, 0]], &[0x4000, EVERY_MARK]),
+    (&[[2, 0, 1, 15, 0]], &[0x8000, EVERY_MARK]),
+    // 16 at step 1 before 13 at step 2, and the other way round
+    (&[[0, 0, 0, 0, 0], [1, 2, 3, 0, 0], [1, 14, 0, 0, 0]], &[0, 0x0008]),
+    (&[[0, 0, 0, 0, 0], [1, 14, 0, 0, 0], [1, 2, 3, 0, 0]], &[0, 0x0008]),
+    // 16 at two steps: the first
+    (&[[0, 0, 0, 0, 0], [1, 2, 3, 0, 0], [1, 3, 4, 0, 0]], &[0, 0x0008, 0x0010, 0x0018]),
+    (&[[12, 1, 2, 3, 0], [13, 2, 3, 4, 0]], &[0x0018, 0x000c, 0x001c]),
+];
+
+/// How a case's sheet is handed in; what is left out is as much as is needed, and every row filled.
 #[derive(Clone, Copy, Default)]
 struct How {
+    filled: Option<u16>,
     start: u64,
     file: Option<usize>,
     room: Option<usize>,
@@ -50,21 +99,23 @@ struct How {
 
 struct Sample {
     chance: Chance,
+    /// The cases so far; by turns every row is filled and every mark set.
+    cases: usize,
 }
 
 pub fn sample() -> ExitCode {
-    let mut sample = Sample { chance: Chance(3) };
+    let mut sample = Sample { chance: Chance(3), cases: 0 };
     sample.kinds();
     sample.lengths();
     sample.broken();
     sample.short();
     sample.endings();
     sample.halves();
-    for _ in 0..RANDOM {
-        let count = 1 + sample.chance.below(6);
-        let steps = sample.chance.steps(count);
-        sample.case(&sheet_of(&steps), How::default());
-    }
+    sample.random();
+    sample.filled();
+    sample.rows();
+    sample.unfilled();
+    sample.random_lists();
     ExitCode::SUCCESS
 }
 
@@ -85,12 +136,14 @@ impl Sample {
     }
 
     fn case_on(&mut self, sheet: &[u8], how: How, file: [u64; 32]) -> [u64; 32] {
-        let pairs = answers::translation(sheet, usize::MAX).map_or(0, |pairs| pairs.len());
+        self.cases += 1;
+        let pairs = answers::count(sheet).unwrap_or(0);
+        let filled = how.filled.unwrap_or([EVERY_ROW, EVERY_MARK][self.cases % 2]);
         let room = how.room.unwrap_or(2 * pairs);
         let budget = how.budget.unwrap_or(pairs as u64);
         let words = how.file.unwrap_or(32);
         let mut out = [BEFORE; HALFWORDS];
-        let (answer, index, executed, left) = match answers::translation(sheet, room) {
+        let (answer, index, executed, left) = match answers::translation(sheet, filled, room) {
             Err((answer, index)) => (answer, index, 0, file),
             Ok(pairs) => {
                 out[..2 * pairs.len()].copy_from_slice(&code_of(&pairs));
@@ -99,14 +152,9 @@ impl Sample {
                 (answer, 0, executed, left)
             }
         };
-        println!(
-            "{:04x} {room:04x} {:016x} {words:04x} {budget:016x} {answer:02x} {index:04x} {executed:04x} {:016x} {} {}",
-            sheet.len(),
-            how.start,
-            check(&out),
-            hexadecimal(&file),
-            hexadecimal(&left)
-        );
+        let given = format!("{:04x} {room:04x} {filled:04x} {:016x} {words:04x} {budget:016x}", sheet.len(), how.start);
+        let answered = format!("{answer:02x} {index:04x} {executed:04x} {:016x}", check(&out));
+        println!("{given} {answered} {} {}", hexadecimal(&file), hexadecimal(&left));
         println!("{}", sheet.iter().map(|byte| format!("{byte:02x}")).collect::<String>());
         left
     }
@@ -190,7 +238,7 @@ impl Sample {
     fn short(&mut self) {
         for kind in 0..15 {
             let mut sheet = sheet_of(&[self.chance.step(kind)]);
-            let need = answers::translation(&sheet, usize::MAX).map_or(0, |pairs| 2 * pairs.len());
+            let need = 2 * answers::count(&sheet).unwrap_or(0);
             for room in [need - 1, need + 1] {
                 self.case(&sheet, How { room: Some(room), ..How::default() });
             }
@@ -203,7 +251,7 @@ impl Sample {
     fn endings(&mut self) {
         for _ in 0..6 {
             let sheet = sheet_of(&self.chance.steps(4));
-            let n = answers::translation(&sheet, usize::MAX).map_or(0, |pairs| pairs.len()) as u64;
+            let n = answers::count(&sheet).unwrap_or(0) as u64;
             let room = Some(2 * n as usize + 3);
             let how = How { room, ..How::default() };
             for budget in [0, n / 2, n - 1] {
@@ -226,10 +274,75 @@ impl Sample {
     fn halves(&mut self) {
         for some in HALVES.chunks(14) {
             let sheet = sheet_of(&constants(some));
-            let need = answers::translation(&sheet, usize::MAX).map_or(0, |pairs| 2 * pairs.len());
+            let need = 2 * answers::count(&sheet).unwrap_or(0);
             for room in [need, need - 1] {
                 self.case(&sheet, How { room: Some(room), ..How::default() });
             }
         }
     }
+
+    fn random(&mut self) {
+        for _ in 0..RANDOM {
+            let count = 1 + self.chance.below(6);
+            let steps = self.chance.steps(count);
+            self.case(&sheet_of(&steps), How::default());
+        }
+    }
+
+    /// Steps with a list of filled rows.
+    fn listed(&mut self, steps: &[Step], filled: u16) {
+        self.case(&sheet_of(steps), How { filled: Some(filled), ..How::default() });
+    }
+
+    /// The sheets with their lists.
+    fn filled(&mut self) {
+        for (rows, lists) in LISTED {
+            let steps: Vec<_> = rows.iter().map(on_rows).collect();
+            lists.iter().for_each(|filled| self.listed(&steps, *filled));
+        }
+    }
+
+    /// Each row missing alone, read by a, by b and by c; then each row alone.
+    fn rows(&mut self) {
+        for row in 0..14 {
+            let (other, target) = ((row + 1) % 14, (row + 5) % 14);
+            let copy = on_rows(&[1, target, row, 0, 0]);
+            let sum = on_rows(&[2, target, other, row, 0]);
+            let pick = on_rows(&[14, target, other, other, row]);
+            [copy, sum, pick].iter().for_each(|step| self.listed(&[*step], EVERY_MARK & !(1 << row)));
+            self.listed(&[copy], 1 << row);
+        }
+    }
+
+    /// 16 beside 12 and 14, and at the last of 256 steps.
+    fn unfilled(&mut self) {
+        let sheet = sheet_of(&[on_rows(&[0, 0, 0, 0, 0]), on_rows(&[14, 1, 0, 2, 0])]);
+        let need = 2 * answers::count(&sheet).unwrap_or(0);
+        for room in [0, need - 1, need, need + 1] {
+            for filled in [0xfffb, 0x0004] {
+                self.case(&sheet, How { filled: Some(filled), room: Some(room), ..How::default() });
+            }
+        }
+        for length in [1, STEP + 1, 2 * STEP - 1] {
+            self.case(&sheet[..length], How { filled: Some(0), ..How::default() });
+        }
+        let mut steps = [on_rows(&[0, 3, 0, 0, 0]); 256];
+        steps[255] = on_rows(&[5, 4, 3, 13, 0]);
+        [0x1fff, 0xd000, 0x2000].into_iter().for_each(|filled| self.listed(&steps, filled));
+    }
+
+    /// Random sheets with random lists.
+    fn random_lists(&mut self) {
+        for _ in 0..RANDOM {
+            let count = 1 + self.chance.below(6);
+            let steps = self.chance.steps(count);
+            let (_, filled) = self.chance.list(needed(&steps));
+            self.listed(&steps, filled);
+        }
+    }
+}
+
+/// A step of a kind on rows, with lanes of 8 bits, amount and sign 0, and 0 for a constant.
+fn on_rows(&[kind, target, a, b, c]: &[u8; 5]) -> Step {
+    Step { kind, target, a, b, c, ..Step::default() }
 }

@@ -5,7 +5,7 @@ use mathlib.Core.List.{[], _∷_}
 use Prim.Native.Nat.{ℕ}
 use lib.ListN.{getD}
 use Rattle.insn.specs.declared.Refusal.{Refusal}
-use Rattle.insn.specs.declared.Refusal.the-variants.{NoFamily, FixedBits, BlankCell, ZeroImmediate, PairwiseQuad, OddQuad, UnknownMnemonic, WrongForm, NoSuchValue, NoMeaning, WrongExtent, SheetLength, StepRule, ShortOutput, BudgetSpent}
+use Rattle.insn.specs.declared.Refusal.the-variants.{NoFamily, FixedBits, BlankCell, ZeroImmediate, PairwiseQuad, OddQuad, UnknownMnemonic, WrongForm, NoSuchValue, NoMeaning, WrongExtent, SheetLength, StepRule, ShortOutput, BudgetSpent, UnfilledRow}
 use Rattle.insn.specs.Refusals.{number}
 use Rattle.insn.specs.Promises.{NumberedApart}
 
@@ -29,6 +29,7 @@ named n =
     ∷ StepRule
     ∷ ShortOutput
     ∷ BudgetSpent
+    ∷ UnfilledRow
     ∷ [])
     n
     NoFamily
@@ -49,6 +50,7 @@ back SheetLength = refl
 back StepRule = refl
 back ShortOutput = refl
 back BudgetSpent = refl
+back UnfilledRow = refl
 
 pub numberedApart : NumberedApart
 numberedApart f g e = sym (back f) ∙ ap named e ∙ back g

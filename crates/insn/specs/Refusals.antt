@@ -1,8 +1,8 @@
--- The number of each refusal: document 01, 'Refusals from the input' and 'Refusals from the state'.
+-- The number of each refusal: document 01, 'Refusals from the input' and 'Refusals from the state'; document 02.
 -- Assumes nothing.
 use Prim.Native.Nat.{ℕ}
 use Rattle.insn.specs.declared.Refusal.{Refusal}
-use Rattle.insn.specs.declared.Refusal.the-variants.{NoFamily, FixedBits, BlankCell, ZeroImmediate, PairwiseQuad, OddQuad, UnknownMnemonic, WrongForm, NoSuchValue, NoMeaning, WrongExtent, SheetLength, StepRule, ShortOutput, BudgetSpent}
+use Rattle.insn.specs.declared.Refusal.the-variants.{NoFamily, FixedBits, BlankCell, ZeroImmediate, PairwiseQuad, OddQuad, UnknownMnemonic, WrongForm, NoSuchValue, NoMeaning, WrongExtent, SheetLength, StepRule, ShortOutput, BudgetSpent, UnfilledRow}
 
 abbrev pub number : Refusal → ℕ
 -- reading
@@ -21,7 +21,8 @@ number NoMeaning = 10  -- the machine has no meaning for the name
 number WrongExtent = 11  -- halfwords, file or start that are no run; bytes that are no listing
 -- sheets
 number SheetLength = 12  -- a length that is no sheet's
-number StepRule = 13  -- the first step that breaks a step rule
+number StepRule = 13  -- a step that breaks a step rule
+number UnfilledRow = 16  -- a step that reads a row which nobody filled
 -- the state
 number ShortOutput = 14  -- the output is shorter than what is to be written
 number BudgetSpent = 15  -- pairs remain and the budget is used up

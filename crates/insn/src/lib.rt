@@ -71,6 +71,7 @@ pub enum Refusal {
     StepRule,
     ShortOutput,
     BudgetSpent,
+    UnfilledRow,
 }
 
 // The operand at place k, counted from 0.
@@ -112,5 +113,6 @@ pub fn refusal_number(f: Refusal) -> u8
         Refusal::StepRule => 13,
         Refusal::ShortOutput => 14,
         Refusal::BudgetSpent => 15,
+        Refusal::UnfilledRow => 16,
     }
 }

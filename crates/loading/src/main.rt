@@ -1,11 +1,17 @@
-// loading SHEET START: runs a sum sheet on a start file, and writes the pair count and rows 0 to 13, or the refusal; and
-// `saturated` where the mark, which starts as no, ends as yes.
+// loading SHEET START [FILLED]: runs a sum sheet on a start file, and writes the pair count and rows 0 to 13, or the
+// refusal; and `saturated` where the mark, which starts as no, ends as yes. FILLED lists the rows that were filled
+// beforehand, as 0,1,2; all were where it is left out.
 ghost use Prim.Native.Nat.{_+_, _<_, _≤_};
 ghost use lib.ListN.{length};
 ghost use Rattle.loading.specs.Start.{StartFile};
 use little_endian::word_at;
 use report::put;
 use report::put_answer;
+use row_list::RowList;
+use row_list::row_list;
+
+// The list of all fourteen rows.
+const ALL_ROWS: u16 = 0x3fff;
 
 // Reads the file that argument k names, as far as the buffer reaches: how many bytes, or one more than it holds
 // where there is no such file.
@@ -40,25 +46,48 @@ fn file_of(start: &[u8; 257]) -> [u64; 32]
     file
 }
 
-fn load(sheet: &[u8], start: &[u8; 257]) {
+// The rows that were filled beforehand: those that the third argument lists, or all where there is none.
+fn filled_rows() -> RowList {
+    let count = os::arg_count();
+    if count < 4 {
+        return RowList::Rows(ALL_ROWS);
+    }
+    if 4 < count {
+        return RowList::NoList;
+    }
+    let mut text = io::buffer();
+    let n = os::arg(3, &mut text);
+    if os::errno() != 0 {
+        return RowList::NoList;
+    }
+    row_list(&text[..n])
+}
+
+fn load(sheet: &[u8], start: &[u8; 257], filled: u16) {
     let mut file = file_of(start);
     let mut out = [0u16; 10240];
     let mut mark = false;
-    let answer = sheet::evaluate(sheet, &mut out, &mut file, u64::MAX, &mut mark);
-    put_answer(answer, file, mark);
+    let answer = sheet::evaluate(sheet, filled, &mut out, &mut file, u64::MAX, &mut mark);
+    put_answer(answer, sheet, filled, file, mark);
 }
 
 fn main() {
     let mut sheet = [0u8; 6145];
     let n = read_file(1, &mut sheet);
     if 6145 < n {
-        put(b"no sheet: loading SHEET START\n");
+        put(b"no sheet: loading SHEET START [FILLED]\n");
         return;
     }
     let mut start = [0u8; 257];
     if read_file(2, &mut start) != 256 {
-        put(b"no start file of 256 bytes: loading SHEET START\n");
+        put(b"no start file of 256 bytes: loading SHEET START [FILLED]\n");
         return;
     }
-    load(&sheet[..n], &start);
+    let filled = filled_rows();
+    match filled {
+        RowList::Rows(rows) => load(&sheet[..n], &start, rows),
+        RowList::NoList => put(
+            b"no list of rows, as 0,1,2 or none or all: loading SHEET START [FILLED]\n",
+        ),
+    }
 }

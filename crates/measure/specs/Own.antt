@@ -1,10 +1,12 @@
 -- For the contract of `measure` alone.
 -- Assumes nothing.
 use Prim.Native.Nat.{ℕ}
-use lib.Dec.{ltb}
-use Rattle.laws.specs.Choice.{choose}
-use Rattle.steps.specs.Rules.{Fault, sound, fault}
+use Rattle.laws.specs.AnswerAt.{AnswerAt, accepted, refusedAt}
+use Rattle.insn.specs.Refusals.{number}
+use Rattle.measure.specs.declared.Measured.{Measured}
+use Rattle.measure.specs.declared.Measured.the-variants.{Pairs, Faulty}
 
--- of n steps, step i is the first that breaks a rule; none does where i is n
-abbrev pub brokenAt : ℕ → ℕ → Fault
-brokenAt n i = choose (ltb i n) (fault 13 i) sound
+-- what each case of the answer stands for, in the papers' numbers
+abbrev pub measuredAnswer : Measured → AnswerAt ℕ
+measuredAnswer (Pairs n) = accepted n
+measuredAnswer (Faulty f i) = refusedAt (number f) i

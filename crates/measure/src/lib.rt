@@ -1,17 +1,24 @@
 // How many pairs steps are written as.
 ghost use mathlib.Core.Path.{_≡_};
 ghost use mathlib.Core.Bool.{true};
-ghost use Prim.Native.Nat.{ℕ, _*_, _<_, _≤_};
+ghost use mathlib.Core.List.{[]};
+ghost use Prim.Native.Nat.{ℕ, _*_, _≤_};
 ghost use lib.ListN.{length};
-ghost use Rattle.measure.specs.Own.{brokenAt};
+ghost use Rattle.laws.specs.AnswerAt.{accepted};
+ghost use Rattle.measure.specs.Own.{measuredAnswer};
 ghost use Rattle.recipes.specs.Pairs.{addByte, wordPairs, halfPairs, pairsBy, pairsOf};
-ghost use Rattle.steps.specs.Rules.{keeps, firstFault};
+ghost use Rattle.steps.specs.Faults.{firstFault, unlessFault};
+ghost use Rattle.steps.specs.Rules.{keeps};
 ghost use Rattle.steps.specs.Steps.{stepsFrom};
+use insn::Refusal;
 use recipes::Recipe;
 use recipes::recipe_of;
 use steps::Step;
+use steps::Terms;
 use steps::bytes::step_at;
-use steps::rules::keeps_rules;
+use steps::faults::Verdict;
+use steps::faults::step_fault;
+use steps::faults::with_row;
 
 // A byte of a constant's word, the word, and the half.
 fn of_byte(byte: u32) -> u64
@@ -57,31 +64,34 @@ fn of_step(s: Step) -> u64
     }
 }
 
-// What `measure` finds: the index of the first step that breaks a rule, or n, and the pairs of all steps, or 0.
-pub struct Measured {
-    pub broken: usize,
-    pub pairs: u64,
+// What `measure` finds: the pairs of all steps; or the first fault, with the index of its step.
+pub enum Measured {
+    Pairs(u64),
+    Faulty(Refusal, u64),
 }
 
-// Goes over n steps, as far as the first that breaks a rule.
-pub fn measure(sheet: &[u8], n: usize) -> Measured
+// Goes over n steps, as far as the first fault. A step's target is filled after the step.
+pub fn measure(sheet: &[u8], n: usize, terms: Terms) -> Measured
     requires { ⌜ (24 * n ≤ length (now sheet)) × (n ≤ 256) ⌝ }
-    ensures broken { λ r. ⌜ firstFault 0 (stepsFrom (now (sheet .entry)) 0 n) ≡ brokenAt n (r .broken) ⌝ }
-    ensures pairs { λ r. ⌜ (n ≤ r .broken → r .pairs ≡ length (pairsOf (stepsFrom (now (sheet .entry)) 0 n))) ⌝ }
-    ensures none { λ r. ⌜ (r .broken ≤ n) × (r .broken < n → r .pairs ≡ 0) ⌝ }
+    ensures { λ r. ⌜ measuredAnswer r ≡ unlessFault (firstFault terms [] (stepsFrom (now (sheet .entry)) 0 n)) (accepted (length (pairsOf (stepsFrom (now (sheet .entry)) 0 n)))) ⌝ }
 {
+    let mut filled = terms.filled;
     let mut i = 0;
     let mut pairs = 0;
     while i < n {
         let s = step_at(sheet, 24 * i);
-        if !keeps_rules(s) {
-            return Measured {
-                broken: i,
-                pairs: 0,
-            };
+        let after = with_row(filled, s.target);
+        let verdict = step_fault(s, filled);
+        match verdict {
+            Verdict::Faulty(cause) => {
+                return Measured::Faulty(cause, i as u64);
+            }
+            Verdict::Sound => {
+                pairs += of_step(s);
+                filled = after;
+                i += 1;
+            }
         }
-        pairs += of_step(s);
-        i += 1;
     }
-    Measured { broken: i, pairs }
+    Measured::Pairs(pairs)
 }

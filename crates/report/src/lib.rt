@@ -1,9 +1,12 @@
-// What `loading` writes: the pair count and rows 0 to 13, or the refusal; and the mark where it is yes.
+// What `loading` writes: the pair count and rows 0 to 13, or the refusal, with the row that a 16 is about; and the mark
+// where it is yes.
 use insn::Refusal;
 use libc::STDOUT_FILENO;
 use machine::Outcome;
 use runs::Ran;
 use sheet::Evaluation;
+use unfilled::Unfilled;
+use unfilled::unfilled_row;
 
 // Writes a text.
 pub fn put(text: &[u8]) {
@@ -67,13 +70,24 @@ fn put_mark(mark: bool) {
     }
 }
 
-// The answer of an evaluation, and the file and the mark that it leaves.
-pub fn put_answer(answer: Evaluation, file: [u64; 32], mark: bool) {
-    put_evaluation(answer, file);
+// The answer of a sheet's evaluation with a list of filled rows, and the file and the mark that it leaves.
+pub fn put_answer(answer: Evaluation, sheet: &[u8], filled: u16, file: [u64; 32], mark: bool) {
+    put_evaluation(answer, sheet, filled, file);
     put_mark(mark);
 }
 
-fn put_evaluation(answer: Evaluation, file: [u64; 32]) {
+// The row that nobody filled, where there is one.
+fn put_unfilled(row: Unfilled) {
+    match row {
+        Unfilled::Row(r) => {
+            put_number(b": row ", r as u64);
+            put(b" was not filled");
+        }
+        Unfilled::NoRow => {}
+    }
+}
+
+fn put_evaluation(answer: Evaluation, sheet: &[u8], filled: u16, file: [u64; 32]) {
     match answer {
         Evaluation::Ran(ran) => put_run(ran, file),
         Evaluation::Refused(f) => {
@@ -83,6 +97,7 @@ fn put_evaluation(answer: Evaluation, file: [u64; 32]) {
         Evaluation::RefusedAt(f, i) => {
             put_refusal(f);
             put_number(b" at step ", i);
+            put_unfilled(unfilled_row(sheet, filled));
             put(b"\n");
         }
     }

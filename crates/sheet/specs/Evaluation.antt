@@ -5,6 +5,7 @@ use Prim.Native.Nat.{ℕ, _*_}
 use lib.ListN.{length, take}
 use Rattle.laws.specs.AnswerAt.{AnswerAt, accepted, refused, refusedAt}
 use Rattle.machine.specs.State.{State}
+use Rattle.steps.specs.declared.Terms.{Terms}
 use Rattle.runs.specs.Run.{Run, runOf}
 use Rattle.translator.specs.Translation.{translationOf, writtenOf}
 
@@ -14,8 +15,8 @@ evaluatedBy (accepted n) out s budget = accepted (runOf (take (2 * n) out) 0 s b
 evaluatedBy (refused r) out s budget = refused r
 evaluatedBy (refusedAt r i) out s budget = refusedAt r i
 
-abbrev pub evaluationOf : List ℕ → List ℕ → State → ℕ → AnswerAt Run
-evaluationOf bytes out s budget = evaluatedBy (translationOf bytes (length out)) (writtenOf bytes out) s budget
+abbrev pub evaluationOf : Terms → List ℕ → List ℕ → State → ℕ → AnswerAt Run
+evaluationOf t bytes out s budget = evaluatedBy (translationOf t bytes (length out)) (writtenOf t bytes out) s budget
 
 -- the state that is left; a refusal of the translation leaves it as it was
 abbrev pub stateLeft : AnswerAt Run → State → State

@@ -80,16 +80,17 @@ fn executed(
     ended(run(&out[..end], start, file, budget, mark))
 }
 
-// A sheet translated, and its pairs run from a start on.
+// A sheet translated with a list of filled rows, and its pairs run from a start on.
 fn called(
     sheet: &[u8],
+    filled: u16,
     out: &mut [u16],
     start: u64,
     file: &mut [u64],
     budget: u64,
     mark: &mut bool,
 ) -> Answer {
-    let t = translator::translate(sheet, out);
+    let t = translator::translate(sheet, filled, out);
     match t {
         Translation::Pairs(n) => executed(out, n, start, file, budget, mark),
         Translation::Refused(f) => refused(f, 0),
@@ -98,30 +99,32 @@ fn called(
 }
 
 // Whether an answer is the line's.
-fn said(line: &[u8; 1105], a: Answer) -> bool {
-    a.number == field(line, 49, 2)
-        && a.index == field(line, 52, 4)
-        && a.executed == field(line, 57, 4)
+fn said(line: &[u8; 1110], a: Answer) -> bool {
+    a.number == field(line, 54, 2)
+        && a.index == field(line, 57, 4)
+        && a.executed == field(line, 62, 4)
 }
 
 // Whether the output and the file that are left are the line's.
-fn left(line: &[u8; 1105], out: &[u16; 10304], file: [u64; 32]) -> bool {
-    check(out) == field(line, 62, 16) && same_file(file, file_at(line, 592))
+fn left(line: &[u8; 1110], out: &[u16; 10304], file: [u64; 32]) -> bool {
+    check(out) == field(line, 67, 16) && same_file(file, file_at(line, 597))
 }
 
 // Whether a case's sheet is answered as its line says, leaves the output and the file that it says, and the mark as it
 // came: yes where the output's length is odd.
-pub fn agrees(line: &[u8; 1105], sheet: &[u8]) -> bool {
+pub fn agrees(line: &[u8; 1110], sheet: &[u8]) -> bool {
     let mut out = [0x5555u16; 10304];
-    let mut file = file_at(line, 79);
-    let start = field(line, 10, 16);
-    let budget = field(line, 32, 16);
+    let mut file = file_at(line, 84);
+    let filled = (field(line, 10, 4) % 65536) as u16;
+    let start = field(line, 15, 16);
+    let budget = field(line, 37, 16);
     let room = (field(line, 5, 4) % 10304) as usize;
-    let words = (field(line, 27, 4) % 33) as usize;
+    let words = (field(line, 32, 4) % 33) as usize;
     let before = room % 2 == 1;
     let mut mark = before;
     let a = called(
         sheet,
+        filled,
         &mut out[..room],
         start,
         &mut file[..words],

@@ -144,10 +144,27 @@ no-word =
       ),
     )
 
+-- what a column has at most
+most : (f : Uses → ℕ) (m : ℕ) → values (λ (k : ℕ). ltb (f (usesOf k)) (suc m)) 0 15 ≡ values (λ (k : ℕ). true) 0 15 → (k : ℕ) → k < 15 → f (usesOf k) ≤ m
+most f m e k h = let t = agree (λ (k : ℕ). ltb (f (usesOf k)) (suc m)) (λ (k : ℕ). true) 15 e k h in omega (arith, ltb-true (f (usesOf k)) (suc m) t)
+
 -- every width code is below 4
 pub widths : (k : ℕ) → k < 15 → limit (usesOf k .width) ≤ 4
 unfolding values table
-widths k h = let e = agree (λ (k : ℕ). ltb (limit (usesOf k .width)) 5) (λ (k : ℕ). true) 15 refl k h in omega (arith, ltb-true (limit (usesOf k .width)) 5 e)
+widths = most (λ u. limit (u .width)) 4 refl
+
+-- and every row below 14
+pub a-rows : (k : ℕ) → k < 15 → limit (usesOf k .a) ≤ 14
+unfolding values table
+a-rows = most (λ u. limit (u .a)) 14 refl
+
+pub b-rows : (k : ℕ) → k < 15 → limit (usesOf k .b) ≤ 14
+unfolding values table
+b-rows = most (λ u. limit (u .b)) 14 refl
+
+pub c-rows : (k : ℕ) → k < 15 → limit (usesOf k .c) ≤ 14
+unfolding values table
+c-rows = most (λ u. limit (u .c)) 14 refl
 
 -- the rows' tests, as the code has them
 pub rows-tested : (s : Step) → s .kind < 15

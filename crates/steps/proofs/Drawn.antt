@@ -10,7 +10,8 @@ use lib.ListN.{getD, List·getD-eq-default}
 use lib.Seq.{getD-set-other}
 use borrow.Author.Tests.{ltb-true, ltb-false}
 use Rattle.steps.specs.declared.Step.{Step}
-use Rattle.steps.specs.Meaning.{rowAt, valueTable, valueBy, taken, readsBy, reads}
+use Rattle.steps.specs.Meaning.{rowAt, valueTable, valueBy, taken}
+use Rattle.steps.specs.Reads.{readsBy, reads}
 use Rattle.steps.specs.Promises.{AgreeAt}
 use Rattle.steps.specs.Rules.{table}
 use Rattle.insn.specs.Widths.{bitsAt}

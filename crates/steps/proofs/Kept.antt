@@ -10,7 +10,7 @@ use Rattle.steps.specs.declared.Step.{Step}
 use Rattle.steps.specs.Own.{limit}
 use Rattle.steps.specs.Rules.{Use, aRow, Uses, usesOf, keepsRows, keepsNumbers, keeps, allows}
 use Rattle.insn.specs.Widths.{bitsAt}
-use Rattle.steps.proofs.Columns.{fits-below, widths}
+use Rattle.steps.proofs.Columns.{fits-below, widths, a-rows, b-rows, c-rows}
 use Rattle.laws.proofs.Tests.{both-true}
 
 pub record Kept (u : Uses) (s : Step) : Type 0 where
@@ -80,6 +80,16 @@ module _ (s : Step) (e : keeps s ≡ true) where
   kept-of =
       let b = both-true (keepsRows (usesOf (s .kind)) s) (keepsNumbers (usesOf (s .kind)) s) (both-true (leb (s .kind) 14) _ e .1) in
       kept-by (usesOf (s .kind)) s (b .0) (b .1)
+
+  -- its rows are, also those that it does not use
+  pub a-small : s .a < 14
+  a-small = omega (arith, kept-of .a, a-rows (s .kind) kind-small)
+
+  pub b-small : s .b < 14
+  b-small = omega (arith, kept-of .b, b-rows (s .kind) kind-small)
+
+  pub c-small : s .c < 14
+  c-small = omega (arith, kept-of .c, c-rows (s .kind) kind-small)
 
 -- where its kind is known
 pub kept-at : (s : Step) (k : ℕ) → keeps s ≡ true → s .kind ≡ k → Kept (usesOf k) s

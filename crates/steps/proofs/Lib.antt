@@ -1,8 +1,12 @@
 pub mod Columns
 pub mod Drawn
 pub mod Each
+pub mod Filling
+pub mod FirstFaults
 pub mod Kept
 pub mod Promises
+pub mod ReadRows
 pub mod Sample
 pub mod Sets
 pub mod Stepping
+pub mod Worked

@@ -69,7 +69,7 @@ marked-alone (suc t) zero =
 marked-alone (suc t) (suc r) = ap (λ (x : ℕ). eqb (x % 2) 1) (power t r) ∙ marked-alone t r ∙ sym (eqb·suc-suc t r)
 
 -- what a join has, one of the two has; what one of them has, the join has
-or-left : (p q : Bool) → p ≡ true → p || q ≡ true
+pub or-left : (p q : Bool) → p ≡ true → p || q ≡ true
 or-left true q e = refl
 or-left false q e = wrong e
 

@@ -1,17 +1,14 @@
--- The steps of a sheet, one after another, and their first fault.
+-- The steps of a sheet, one after another.
 -- Assumes nothing.
 use mathlib.Core.Path.{_≡_, refl, ap}
-use mathlib.Core.Bool.{Bool, true, false}
+use mathlib.Core.Bool.{true}
 use mathlib.Core.List.{List, [], _∷_, _++_}
-use Prim.Native.Nat.{ℕ, zero, suc, _+_, _-_, _*_, _≤_, _<_}
+use Prim.Native.Nat.{ℕ, zero, suc, _+_, _*_, _<_}
 use native.Mathlib.Nat.{add-zero, zero-add, not-suc-le-zero}
-use native.Mathlib.Numerals.{add-one}
 use native.Mathlib.Omega.{arith}
 use lib.ListN.{length}
-use Rattle.laws.specs.Choice.{choose}
-use Rattle.laws.proofs.Never.{never}
 use Rattle.steps.specs.declared.Step.{Step}
-use Rattle.steps.specs.Rules.{keeps, AllKeep, sound, fault, firstFault, firstOf}
+use Rattle.steps.specs.Rules.{keeps, AllKeep}
 use Rattle.steps.specs.Steps.{stepAt, stepsFrom}
 
 pub steps-length : (s : List ℕ) (k n : ℕ) → length (stepsFrom s k n) ≡ n
@@ -27,39 +24,14 @@ steps-snoc s k (suc n) =
     let e : k + suc n ≡ suc k + n = omega arith in
     rw e (ap (λ (l : List Step). stepAt s (24 * k) ∷ l) (steps-snoc s (suc k) n))
 
--- the loop that looks for the first fault
-module _ (s : List ℕ) (n i : ℕ) (h : i < n) where
-  pub fault-later : keeps (stepAt s (24 * i)) ≡ true → firstFault i (stepsFrom s i (n - i)) ≡ firstFault (i + 1) (stepsFrom s (i + 1) (n - (i + 1)))
-  unfolding firstFault stepsFrom
-  fault-later e = let g : n - i ≡ suc (n - suc i) = omega arith in rw (g, e, add-one)
+-- the steps before step i, the last of them first
+abbrev pub before : List ℕ → ℕ → List Step
+before s zero = []
+before s (suc i) = stepAt s (24 * i) ∷ before s i
 
-  pub fault-here : keeps (stepAt s (24 * i)) ≡ false → firstFault i (stepsFrom s i (n - i)) ≡ fault 13 i
-  unfolding firstFault stepsFrom
-  fault-here e = let g : n - i ≡ suc (n - suc i) = omega arith in rw (g, e)
-
-pub fault-none : (s : List ℕ) (n i : ℕ) → n ≤ i → firstFault i (stepsFrom s i (n - i)) ≡ sound
-unfolding firstFault stepsFrom
-fault-none s n i h = let g : n - i ≡ 0 = omega arith in rw g
-
--- a fault is not none
-pub not-sound : {P : Type 0} (n i : ℕ) → fault n i ≡ sound → P
-not-sound n i e = never (cc)
-
--- with no fault each step keeps the rules
-pub all-keep : (i : ℕ) (steps : List Step) → firstFault i steps ≡ sound → AllKeep steps
-unfolding firstFault
-all-keep i [] h = tt
-all-keep i (s ∷ steps) h = go (keeps s) refl (all-keep (suc i) steps) h
-  where
-    go : (t : Bool) → keeps s ≡ t → (firstFault (suc i) steps ≡ sound → AllKeep steps)
-        → firstOf (choose t sound (fault 13 i)) (firstFault (suc i) steps) ≡ sound → (keeps s ≡ true) × AllKeep steps
-    go true e f g = (e, f g)
-    go false e f g = not-sound 13 i g
-
-pub keep-all : (i : ℕ) (steps : List Step) → AllKeep steps → firstFault i steps ≡ sound
-unfolding firstFault
-keep-all i [] a = refl
-keep-all i (s ∷ steps) a = rw (a .0) (keep-all (suc i) steps (a .1))
+pub before-length : (s : List ℕ) (i : ℕ) → length (before s i) ≡ i
+before-length s zero = refl
+before-length s (suc i) = ap suc (before-length s i)
 
 keeps-each : (s : List ℕ) (k n : ℕ) → AllKeep (stepsFrom s k n) → (i : ℕ) → i < n → keeps (stepAt s (24 * (k + i))) ≡ true
 unfolding stepsFrom

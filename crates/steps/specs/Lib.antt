@@ -1,6 +1,8 @@
 pub mod Steps
 pub mod Rules
-pub mod Meaning
+pub mod Reads
 pub mod Sets
+pub mod Faults
+pub mod Meaning
 pub mod Promises
 pub mod Own

@@ -14,7 +14,6 @@ use Rattle.laws.specs.Signed.{modulo}
 use Rattle.insn.specs.declared.Sign.{Sign}
 use Rattle.insn.specs.declared.Sign.the-variants.{Unsigned, Signed}
 use Rattle.steps.specs.declared.Step.{Step}
-use Rattle.steps.specs.Rules.{Use, unused, upTo, below, usesOf}
 use Rattle.insn.specs.Widths.{bitsAt}
 
 -- D(2r) + 2^64 × D(2r+1), for each r in turn
@@ -71,16 +70,3 @@ taken s rows = set rows (s .target) (valueBy (s .kind) s rows)
 unfoldable pub meaning : List Step → List ℕ → List ℕ
 meaning [] rows = rows
 meaning (s ∷ steps) rows = meaning steps (taken s rows)
-
--- a row that is used, before others
-abbrev pub usedRow : Use → ℕ → List ℕ → List ℕ
-usedRow unused r rs = rs
-usedRow (upTo n) r rs = r ∷ rs
-usedRow (below n) r rs = r ∷ rs
-
--- the rows that a step reads
-unfoldable pub readsBy : ℕ → Step → List ℕ
-readsBy kind s = usedRow (usesOf kind .a) (s .a) (usedRow (usesOf kind .b) (s .b) (usedRow (usesOf kind .c) (s .c) []))
-
-abbrev pub reads : Step → List ℕ
-reads s = readsBy (s .kind) s

@@ -1,11 +1,18 @@
 -- Promises beyond the contracts; proofs/Promises.antt proves each under its name.
 -- Assumes nothing.
+use mathlib.Core.Bool.{true}
 use mathlib.Core.List.{List, [], _∷_}
 use mathlib.Core.Logic.{_≢_}
 use mathlib.Core.Path.{_≡_}
-use Prim.Native.Nat.{ℕ}
+use Prim.Native.Nat.{ℕ, suc, _+_, _%_, _^_, _<_}
+use Rattle.laws.specs.Choice.{choose}
 use Rattle.steps.specs.declared.Step.{Step}
-use Rattle.steps.specs.Meaning.{rowAt, valueBy, taken, reads}
+use Rattle.steps.specs.declared.Terms.{Terms}
+use Rattle.steps.specs.Faults.{terms, AllFilled, Fault, sound, fault, firstFault}
+use Rattle.steps.specs.Meaning.{rowAt, valueBy, taken}
+use Rattle.steps.specs.Reads.{reads}
+use Rattle.steps.specs.Rules.{keeps, AllKeep}
+use Rattle.steps.specs.Sets.{inSet}
 
 -- two lists of rows hold the same in the rows of a list
 abbrev pub AgreeAt : List ℕ → List ℕ → List ℕ → Type 0
@@ -19,3 +26,64 @@ ValueReads = (s : Step) (x y : List ℕ) → AgreeAt (reads s) x y → valueBy (
 -- taking it changes its target alone
 abbrev pub TargetAlone : Type 0
 TargetAlone = (s : Step) (x : List ℕ) (r : ℕ) → r ≢ s .target → rowAt (taken s x) r ≡ rowAt x r
+
+-- no fault is found exactly where every step keeps the rules and reads filled rows
+abbrev pub SoundExactly : Type 0
+SoundExactly =
+    (t : Terms) (steps : List Step)
+    → (firstFault t [] steps ≡ sound → AllKeep steps × AllFilled t [] steps) × (AllKeep steps × AllFilled t [] steps → firstFault t [] steps ≡ sound)
+
+-- marks above row 13 are ignored
+abbrev pub MarksAbove : Type 0
+MarksAbove = (filled : ℕ) (steps : List Step) → firstFault (terms filled) [] steps ≡ firstFault (terms (filled % 2 ^ 14)) [] steps
+
+-- document 01's first fault: the first step that breaks a rule, the steps' indices beginning at i
+unfoldable pub firstBroken : ℕ → List Step → Fault
+firstBroken i [] = sound
+firstBroken i (s ∷ steps) = let later = firstBroken (suc i) steps in choose (keeps s) later (fault 13 i)
+
+-- with all rows filled it is the only one
+abbrev pub AllRowsFilled : Type 0
+AllRowsFilled = (t : Terms) (steps : List Step) → ((r : ℕ) → r < 14 → inSet (t .filled) r ≡ true) → firstFault t [] steps ≡ firstBroken 0 steps
+
+-- the rows that are in one list are in the other
+abbrev pub Within : Terms → Terms → Type 0
+Within small large = (r : ℕ) → r < 14 → inSet (small .filled) r ≡ true → inSet (large .filled) r ≡ true
+
+-- a larger list refuses nothing that a smaller one allows
+abbrev pub LargerAllows : Type 0
+LargerAllows = (small large : Terms) (steps : List Step) → Within small large → firstFault small [] steps ≡ sound → firstFault large [] steps ≡ sound
+
+-- steps with a kind, a target, a and b, in lanes of the width of a code
+abbrev pub stepOf : ℕ → ℕ → ℕ → ℕ → ℕ → Step
+stepOf kind target a b width =
+    record { kind = kind; target = target; a = a; b = b; c = 0; width = width; amount = 0; sign = 0; low = 0; high = 0 }
+
+-- row 2 is the sum of rows 0 and 1
+abbrev pub sum : Step
+sum = stepOf 2 2 0 1 2
+
+-- row 2 is added to
+abbrev pub more : Step
+more = stepOf 2 2 2 0 2
+
+-- row 5 is a copy of row 2
+abbrev pub copied : Step
+copied = stepOf 1 5 2 0 0
+
+-- a product of 64-bit lanes, which there is not, of rows 5 and 6
+abbrev pub noStep : Step
+noStep = stepOf 4 7 5 6 3
+
+-- worked faults, each with its list and its steps
+pub record WorkedFaults : Type 0 where
+  pub both-filled : firstFault (terms (2 ^ 0 + 2 ^ 1)) [] (sum ∷ copied ∷ []) ≡ sound
+  pub b-not-filled : firstFault (terms (2 ^ 0)) [] (sum ∷ copied ∷ []) ≡ fault 16 0
+  pub own-target : firstFault (terms (2 ^ 0)) [] (more ∷ []) ≡ fault 16 0
+  pub own-target-filled : firstFault (terms (2 ^ 0 + 2 ^ 1)) [] (sum ∷ more ∷ []) ≡ sound
+  pub set-later : firstFault (terms (2 ^ 0 + 2 ^ 1)) [] (copied ∷ sum ∷ []) ≡ fault 16 0
+  pub high-marks : firstFault (terms (2 ^ 14 + 2 ^ 15)) [] (copied ∷ []) ≡ fault 16 0
+  pub rule-first : firstFault (terms 0) [] (noStep ∷ []) ≡ fault 13 0
+  pub sixteen-then-thirteen : firstFault (terms 0) [] (copied ∷ noStep ∷ []) ≡ fault 16 0
+  pub thirteen-then-sixteen : firstFault (terms 0) [] (noStep ∷ copied ∷ []) ≡ fault 13 0
+  pub no-step : firstFault (terms 0) [] [] ≡ sound

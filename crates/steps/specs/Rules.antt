@@ -3,10 +3,10 @@
 use mathlib.Core.Bool.{Bool, true}
 use mathlib.Core.List.{List, [], _∷_}
 use mathlib.Core.Path.{_≡_}
-use Prim.Native.Nat.{ℕ, suc, _^_}
+use Prim.Native.Nat.{ℕ, _^_}
 use lib.Dec.{eqb, leb, ltb}
 use lib.ListN.{getD}
-use Rattle.laws.specs.Choice.{choose, both}
+use Rattle.laws.specs.Choice.{both}
 use Rattle.insn.specs.Widths.{bitsAt}
 use Rattle.steps.specs.declared.Step.{Step}
 
@@ -81,21 +81,3 @@ keeps s = both (leb (s .kind) 14) (both (keepsRows (usesOf (s .kind)) s) (keepsN
 abbrev pub AllKeep : List Step → Type 0
 AllKeep [] = Unit {0}
 AllKeep (s ∷ steps) = (keeps s ≡ true) × AllKeep steps
-
--- no fault; or a refusal's number and the index of its step
-pub data Fault : Type 0 where
-  sound : Fault
-  fault : ℕ → ℕ → Fault
-
-abbrev pub firstOf : Fault → Fault → Fault
-firstOf sound later = later
-firstOf (fault n i) later = fault n i
-
--- the fault of a step, which has index i
-abbrev pub stepFault : ℕ → Step → Fault
-stepFault i s = choose (keeps s) sound (fault 13 i)
-
--- the first fault of steps, whose indices begin at i
-unfoldable pub firstFault : ℕ → List Step → Fault
-firstFault i [] = sound
-firstFault i (s ∷ steps) = let later = firstFault (suc i) steps in firstOf (stepFault i s) later

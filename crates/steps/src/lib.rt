@@ -1,5 +1,6 @@
-// The steps of a sum sheet: its bytes as steps, and the step rules.
+// The steps of a sum sheet: its bytes as steps, the step rules, and the faults of a step.
 pub mod bytes;
+pub mod faults;
 pub mod rules;
 
 // One step, its bytes by name; the two words are the last sixteen bytes.
@@ -14,4 +15,9 @@ pub struct Step {
     pub sign: u8,
     pub low: u64,
     pub high: u64,
+}
+
+// What a translation comes with: the rows that were filled beforehand, row r at bit r.
+pub struct Terms {
+    pub filled: u16,
 }

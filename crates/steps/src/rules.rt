@@ -7,11 +7,11 @@ ghost use Rattle.steps.specs.Own.{limit};
 use crate::Step;
 
 // How many values each byte of a kind, 0 to 14, may have; a byte that the kind does not use has one, 0.
-const A: [u8; 15] = [1, 14, 14, 14, 14, 14, 14, 14, 14, 14, 14, 14, 14, 14, 14];
+pub const A: [u8; 15] = [1, 14, 14, 14, 14, 14, 14, 14, 14, 14, 14, 14, 14, 14, 14];
 
-const B: [u8; 15] = [1, 1, 14, 14, 14, 14, 14, 14, 1, 1, 1, 14, 14, 14, 14];
+pub const B: [u8; 15] = [1, 1, 14, 14, 14, 14, 14, 14, 1, 1, 1, 14, 14, 14, 14];
 
-const C: [u8; 15] = [1, 1, 1, 1, 1, 1, 1, 1, 1, 1, 1, 1, 1, 1, 14];
+pub const C: [u8; 15] = [1, 1, 1, 1, 1, 1, 1, 1, 1, 1, 1, 1, 1, 1, 14];
 
 const WIDTH: [u8; 15] = [1, 1, 4, 4, 3, 1, 1, 1, 1, 4, 4, 3, 3, 3, 1];
 

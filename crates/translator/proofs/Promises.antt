@@ -1,18 +1,43 @@
 -- The promises of specs/Promises.antt.
 -- Assumes nothing.
-use mathlib.Core.Path.{_≡_, ap}
+use mathlib.Core.Path.{_≡_, sym, _∙_, ap}
+use mathlib.Core.List.{[]}
+use lib.ListN.{length}
+use Prim.Native.Nat.{ℕ}
 use Rattle.laws.proofs.Never.{never}
 use Rattle.insn.proofs.Promises.{numberedApart}
 use Rattle.translator.specs.declared.Translation.the-variants.{Pairs, Refused, RefusedAt}
-use Rattle.recipes.specs.Pairs.{pairsOf}
-use Rattle.translator.specs.Promises.{Exactly, AllWritten, HalfShort, OutputKept, TranslationsApart}
+use Rattle.laws.specs.AnswerAt.{AnswerAt}
+use Rattle.recipes.specs.Pairs.{pairsOf, halfwordsOf}
+use Rattle.steps.specs.Faults.{Fault}
+use Rattle.steps.specs.Steps.{stepsOf}
+use Rattle.steps.proofs.FirstFaults.{soundExactly}
+use Rattle.steps.proofs.Promises as steps
+use Rattle.translator.specs.Promises.{Exactly, AsBefore, LargerTranslates, MarksIgnored, AllWritten, HalfShort, OutputKept, TranslationsApart}
+use Rattle.translator.specs.Translation.{recordsOf, translationBy, writtenBy}
 use Rattle.recipes.proofs.ByKind.{sheet-written}
 use Rattle.recipes.proofs.Halves.{half-few}
 use Rattle.translator.proofs.Translations.{translates, translated, kept-unless}
 use Rattle.recipes.proofs.Writes.{written-length}
 
 pub exactly : Exactly
-exactly bytes room n = (translates bytes room n, translated bytes room n)
+exactly t bytes room n = (translates t bytes room n, translated t bytes room n)
+
+pub asBefore : AsBefore
+asBefore t bytes out all =
+    let e = ap (λ (f : Fault). translationBy f bytes (length out)) (steps.allRowsFilled t (stepsOf bytes) all) in
+    (e, ap (λ (a : AnswerAt ℕ). writtenBy a (halfwordsOf (recordsOf bytes)) out) e)
+
+pub largerTranslates : LargerTranslates
+largerTranslates small large bytes out n w e =
+    let a = translates small bytes (length out) n e in
+    let f = steps.largerAllows small large (stepsOf bytes) w (soundExactly small (stepsOf bytes) .1 (a .keep, a .filled)) in
+    let b = soundExactly large (stepsOf bytes) .0 f in
+    let l = translated large bytes (length out) n (record { whole = a .whole; few = a .few; keep = a .keep; filled = b .1; count = a .count; long = a .long }) in
+    (l, ap (λ (x : AnswerAt ℕ). writtenBy x (halfwordsOf (recordsOf bytes)) out) (l ∙ sym e))
+
+pub marksIgnored : MarksIgnored
+marksIgnored filled bytes room = ap (λ (f : Fault). translationBy f bytes room) (steps.marksAbove filled (stepsOf bytes))
 
 pub allWritten : AllWritten
 allWritten steps k = written-length (pairsOf steps) (sheet-written steps k)

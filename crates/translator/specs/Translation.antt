@@ -1,7 +1,8 @@
--- What the translator answers, and what it leaves in the output: document 01, 'Sum sheet' and the refusals.
+-- What the translator answers, and what it leaves in the output: document 01, 'Sum sheet' and the refusals; document 02,
+-- F-6.
 -- Assumes nothing.
 use mathlib.Core.Bool.{not}
-use mathlib.Core.List.{List, _++_}
+use mathlib.Core.List.{List, [], _++_}
 use mathlib.Core.Path.{_≡_}
 use Prim.Native.Nat.{ℕ, _*_, _%_, _≤_}
 use lib.Dec.{ltb, eqb}
@@ -10,26 +11,27 @@ use Rattle.laws.specs.AnswerAt.{AnswerAt, accepted, refused, refusedAt}
 use Rattle.laws.specs.Choice.{choose}
 use Rattle.insn.specs.declared.Insn.{Insn}
 use Rattle.recipes.specs.Pairs.{pairsOf, halfwordsOf}
-use Rattle.steps.specs.Rules.{AllKeep, Fault, sound, fault, firstFault}
+use Rattle.steps.specs.declared.Terms.{Terms}
+use Rattle.steps.specs.Faults.{AllFilled, Fault, firstFault, unlessFault}
+use Rattle.steps.specs.Rules.{AllKeep}
 use Rattle.steps.specs.Steps.{stepsOf}
 
 -- the pairs of a sheet's steps
 abbrev pub recordsOf : List ℕ → List Insn
 recordsOf bytes = pairsOf (stepsOf bytes)
 
--- a step's fault is refused with its index
-abbrev pub unlessFault : Fault → AnswerAt ℕ → AnswerAt ℕ
-unlessFault sound t = t
-unlessFault (fault n i) t = refusedAt n i
-
--- for a sheet's bytes, with `room` halfwords of output: the number of pairs, or the refusal
-unfoldable pub translationOf : List ℕ → ℕ → AnswerAt ℕ
-translationOf bytes room =
+-- for a sheet's bytes, whose steps have this first fault, with `room` halfwords of output: the number of pairs, or the
+-- refusal
+unfoldable pub translationBy : Fault → List ℕ → ℕ → AnswerAt ℕ
+translationBy first bytes room =
     choose (not (eqb (length bytes % 24) 0)) (refused 12)
     (choose (ltb 6144 (length bytes)) (refused 12)
-    (unlessFault (firstFault 0 (stepsOf bytes))
+    (unlessFault first
     (choose (ltb room (2 * length (recordsOf bytes))) (refused 14)
     (accepted (length (recordsOf bytes))))))
+
+abbrev pub translationOf : Terms → List ℕ → ℕ → AnswerAt ℕ
+translationOf t bytes room = translationBy (firstFault t [] (stepsOf bytes)) bytes room
 
 -- the pairs' halfwords at the front of the output; a refusal leaves it as it was
 unfoldable pub writtenBy : AnswerAt ℕ → List ℕ → List ℕ → List ℕ
@@ -37,13 +39,15 @@ writtenBy (accepted n) code out = code ++ drop (length code) out
 writtenBy (refused r) code out = out
 writtenBy (refusedAt r i) code out = out
 
-abbrev pub writtenOf : List ℕ → List ℕ → List ℕ
-writtenOf bytes out = writtenBy (translationOf bytes (length out)) (halfwordsOf (recordsOf bytes)) out
+abbrev pub writtenOf : Terms → List ℕ → List ℕ → List ℕ
+writtenOf t bytes out = writtenBy (translationOf t bytes (length out)) (halfwordsOf (recordsOf bytes)) out
 
--- The bytes are 0 to 256 whole steps that keep the step rules, their pairs are n, and the output has two halfwords for each.
-pub record Translates (bytes : List ℕ) (room n : ℕ) : Type 0 where
+-- The bytes are 0 to 256 whole steps that keep the step rules and read filled rows, their pairs are n, and the output has
+-- two halfwords for each.
+pub record Translates (t : Terms) (bytes : List ℕ) (room n : ℕ) : Type 0 where
   pub whole : length bytes % 24 ≡ 0
   pub few : length bytes ≤ 6144
   pub keep : AllKeep (stepsOf bytes)
+  pub filled : AllFilled t [] (stepsOf bytes)
   pub count : n ≡ length (recordsOf bytes)
   pub long : 2 * n ≤ room

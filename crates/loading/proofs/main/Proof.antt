@@ -9,12 +9,13 @@ use Rattle.loading.proofs.main.Tie as tie
 
 slice-aggregate-load : tie.Need-slice-aggregate-load
 slice-aggregate-load c =
-    let r = c .before .before .before .before .before .before .before .read-file in
-    sym (length-take-le _ _ (omega (arith, r .kept .1 .0, c .before .before .before .before .before .if1 .left)))
+    let b = c .before .before .before .before .before .before .before .before .before in
+    sym (length-take-le _ _ (omega (arith, b .before .before .read-file .kept .1 .0, b .if1 .left)))
 
 pub main-spec : {M : Type 1} → statement M
 main-spec =
     tie.close
     (tie.spec (λ c. search needs) (λ c κs. search needs) (λ c. search needs) (λ c κs. search needs) (λ c. search needs) (λ c. search needs)
-    (λ c κs. search needs) (λ c. search needs) (λ c κs. search needs) (λ c. search needs) (λ c. search needs) slice-aggregate-load
-    (λ c κs. search needs) (λ c. search needs))
+    (λ c κs. search needs) (λ c. search needs) (λ c κs. search needs) (λ c. search needs) (λ c κs. search needs) (λ c. search needs)
+    (λ c. search needs) slice-aggregate-load (λ c κs. search needs) (λ c. search needs) (λ c. search needs) (λ c κs. search needs)
+    (λ c. search needs) (λ c. search needs))
