@@ -3,20 +3,37 @@
 use mathlib.Core.List.{List}
 use mathlib.Core.Path.{_≡_}
 use Prim.Native.Nat.{ℕ, _^_, _<_}
-use lib.ListN.{getD}
+use lib.ListN.{length, getD}
+use Rattle.laws.specs.AnswerAt.{accepted}
 use Rattle.machine.specs.State.{State}
+use Rattle.recipes.specs.Pairs.{halfwordsOf}
 use Rattle.steps.specs.declared.Terms.{Terms}
-use Rattle.translator.specs.Translation.{writtenOf}
+use Rattle.steps.specs.Promises.{firstBroken, HasAll, Within}
+use Rattle.steps.specs.Steps.{stepsOf}
+use Rattle.translator.specs.Translation.{recordsOf, translationBy, translationOf, writtenBy, writtenOf}
 use Rattle.sheet.specs.declared.Evaluation.{Evaluation}
 use Rattle.sheet.specs.Answers.{evaluationAnswer}
 use Rattle.sheet.specs.Demand3.{Demand3}
-use Rattle.sheet.specs.Evaluation.{evaluationOf, stateLeft}
+use Rattle.sheet.specs.Evaluation.{evaluatedBy, evaluationOf, stateLeft}
 
 -- demand 3, for every list of filled rows, every list of bytes, every output, every file of 64-bit numbers with every mark, and every budget
 abbrev pub SheetsHold : Type 0
 SheetsHold =
     (t : Terms) (bytes out : List ℕ) (s : State) (budget : ℕ) → ((k : ℕ) → getD (s .file) k 0 < 2 ^ 64)
     → Demand3 t bytes out s budget (writtenOf t bytes out) (stateLeft (evaluationOf t bytes out s budget) s) (evaluationOf t bytes out s budget)
+
+-- with all rows in the list an evaluation is document 01's, whose only fault of a step is 13
+abbrev pub EvaluatesAsBefore : Type 0
+EvaluatesAsBefore =
+    (t : Terms) (bytes out : List ℕ) (s : State) (budget : ℕ) → HasAll t
+    → let before = translationBy (firstBroken 0 (stepsOf bytes)) bytes (length out) in
+    evaluationOf t bytes out s budget ≡ evaluatedBy before (writtenBy before (halfwordsOf (recordsOf bytes)) out) s budget
+
+-- what a smaller list lets be translated, a larger one evaluates alike
+abbrev pub LargerEvaluates : Type 0
+LargerEvaluates =
+    (small large : Terms) (bytes out : List ℕ) (s : State) (budget n : ℕ) → Within small large → translationOf small bytes (length out) ≡ accepted n
+    → evaluationOf large bytes out s budget ≡ evaluationOf small bytes out s budget
 
 -- an answer says which case it is
 abbrev pub EvaluationsApart : Type 0

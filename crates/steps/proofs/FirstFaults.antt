@@ -12,7 +12,7 @@ use Rattle.laws.specs.Choice.{choose}
 use Rattle.steps.specs.declared.Step.{Step}
 use Rattle.steps.specs.declared.Terms.{Terms}
 use Rattle.steps.specs.Faults.{terms, setBy, isFilled, every, AllFilled, Fault, sound, fault, firstOf, stepFault, firstFault}
-use Rattle.steps.specs.Promises.{firstBroken, Within, SoundExactly, MarksAbove, AllRowsFilled, LargerAllows}
+use Rattle.steps.specs.Promises.{firstBroken, HasAll, Within, SoundExactly, MarksAbove, AllRowsFilled, LargerAllows}
 use Rattle.steps.specs.Reads.{reads}
 use Rattle.steps.specs.Rules.{keeps, AllKeep}
 use Rattle.steps.specs.Sets.{inSet}
@@ -67,7 +67,7 @@ every-true : (rs : List ℕ) → every (λ (r : ℕ). true) rs ≡ true
 every-true [] = refl
 every-true (r ∷ rs) = every-true rs
 
-only-rules : (t : Terms) → ((r : ℕ) → r < 14 → inSet (t .filled) r ≡ true) → (earlier steps : List Step) → firstFault t earlier steps ≡ firstBroken (length earlier) steps
+only-rules : (t : Terms) → HasAll t → (earlier steps : List Step) → firstFault t earlier steps ≡ firstBroken (length earlier) steps
 unfolding firstFault firstBroken
 only-rules t all earlier [] = refl
 only-rules t all earlier (s ∷ steps) = go (keeps s) refl (only-rules t all (s ∷ earlier) steps)

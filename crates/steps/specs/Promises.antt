@@ -42,9 +42,13 @@ unfoldable pub firstBroken : ℕ → List Step → Fault
 firstBroken i [] = sound
 firstBroken i (s ∷ steps) = let later = firstBroken (suc i) steps in choose (keeps s) later (fault 13 i)
 
+-- every row is in the list
+abbrev pub HasAll : Terms → Type 0
+HasAll t = (r : ℕ) → r < 14 → inSet (t .filled) r ≡ true
+
 -- with all rows filled it is the only one
 abbrev pub AllRowsFilled : Type 0
-AllRowsFilled = (t : Terms) (steps : List Step) → ((r : ℕ) → r < 14 → inSet (t .filled) r ≡ true) → firstFault t [] steps ≡ firstBroken 0 steps
+AllRowsFilled = (t : Terms) (steps : List Step) → HasAll t → firstFault t [] steps ≡ firstBroken 0 steps
 
 -- the rows that are in one list are in the other
 abbrev pub Within : Terms → Terms → Type 0

@@ -1,18 +1,16 @@
 -- Promises beyond the contract; proofs/Promises.antt proves each under its name.
 -- Assumes nothing.
-use mathlib.Core.Bool.{true}
 use mathlib.Core.List.{List}
 use mathlib.Core.Logic.{_≢_}
 use mathlib.Core.Path.{_≡_}
-use Prim.Native.Nat.{ℕ, _*_, _%_, _^_, _≤_, _<_}
+use Prim.Native.Nat.{ℕ, _*_, _%_, _^_, _≤_}
 use lib.ListN.{length}
 use Rattle.laws.specs.AnswerAt.{accepted}
 use Rattle.steps.specs.declared.Step.{Step}
 use Rattle.steps.specs.declared.Terms.{Terms}
 use Rattle.steps.specs.Faults.{terms}
-use Rattle.steps.specs.Promises.{firstBroken, Within}
+use Rattle.steps.specs.Promises.{firstBroken, HasAll, Within}
 use Rattle.steps.specs.Rules.{AllKeep}
-use Rattle.steps.specs.Sets.{inSet}
 use Rattle.steps.specs.Steps.{stepsOf}
 use Rattle.translator.specs.declared.Translation.{Translation}
 use Rattle.translator.specs.Answers.{translationAnswer}
@@ -28,7 +26,7 @@ Exactly =
 -- a list with all rows: the answer and the output are document 01's, whose only fault of a step is 13
 abbrev pub AsBefore : Type 0
 AsBefore =
-    (t : Terms) (bytes out : List ℕ) → ((r : ℕ) → r < 14 → inSet (t .filled) r ≡ true)
+    (t : Terms) (bytes out : List ℕ) → HasAll t
     → let before = translationBy (firstBroken 0 (stepsOf bytes)) bytes (length out) in
     (translationOf t bytes (length out) ≡ before) × (writtenOf t bytes out ≡ writtenBy before (halfwordsOf (recordsOf bytes)) out)
 
