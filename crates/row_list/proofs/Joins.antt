@@ -14,7 +14,7 @@ use Rattle.steps.specs.Sets.{setOf}
 use Rattle.row_list.specs.declared.RowList.{RowList}
 use Rattle.row_list.specs.declared.RowList.the-variants.{Rows, NoList}
 use Rattle.row_list.specs.Answers.{listAnswer}
-use Rattle.row_list.specs.Lists.{Listed, listed, noList, before, wordsOf, rowNamed, rowsNamed, asSet}
+use Rattle.row_list.specs.Lists.{Parsed, listed, noList, andRows, wordsOf, rowNamed, rowsNamed, asSet}
 use Rattle.row_list.specs.Own.{wordsFrom, EndsAt}
 use Rattle.row_list.proofs.Words.{from-start, past-end}
 
@@ -39,11 +39,11 @@ or-apart =
     ∙ rw (parts a b .0, parts a b .1, ih (b / 2) (c / 2), max-apart (a % 2) (b % 2) (c % 2))
     (sym (or-step a (bitOr b c) ∙ rw (parts b c .0, parts b c .1))))
 
-abbrev joined : ℕ → Listed ℕ → Listed ℕ
+abbrev joined : ℕ → Parsed ℕ → Parsed ℕ
 joined rows (listed more) = listed (bitOr rows more)
 joined rows noList = noList
 
-joined-none : (x : Listed ℕ) → joined 0 x ≡ x
+joined-none : (x : Parsed ℕ) → joined 0 x ≡ x
 joined-none (listed rows) = refl
 joined-none noList = refl
 
@@ -56,7 +56,7 @@ module _ (rows : ℕ) (word : List ℕ) (words : List (List ℕ)) where
   unfolding rowsNamed setOf
   joined-row row e = go (rowNamed word) (rowsNamed words) e
     where
-      go : (f : Found) (l : Listed (List ℕ)) → listed row ≡ asSet (before f (listed [])) → joined rows (asSet (before f l)) ≡ joined (bitOr rows row) (asSet l)
+      go : (f : Found) (l : Parsed (List ℕ)) → listed row ≡ asSet (andRows f (listed [])) → joined rows (asSet (andRows f l)) ≡ joined (bitOr rows row) (asSet l)
       go (at r) (listed more) e =
           let same : row ≡ bitOr (2 ^ r) 0 = cc in
           let own = same ∙ or-zero-r (2 ^ r) in
@@ -68,12 +68,12 @@ module _ (rows : ℕ) (word : List ℕ) (words : List (List ℕ)) where
   unfolding rowsNamed
   joined-not e = go (rowNamed word) (rowsNamed words) e
     where
-      go : (f : Found) (l : Listed (List ℕ)) → noList ≡ asSet (before f (listed [])) → joined rows (asSet (before f l)) ≡ noList
+      go : (f : Found) (l : Parsed (List ℕ)) → noList ≡ asSet (andRows f (listed [])) → joined rows (asSet (andRows f l)) ≡ noList
       go (at r) l e = never (cc)
       go none l e = refl
 
 -- a set, with the rows of the words from a place on
-abbrev pub withRest : List ℕ → ℕ → ℕ → Listed ℕ
+abbrev pub withRest : List ℕ → ℕ → ℕ → Parsed ℕ
 withRest text place rows = joined rows (asSet (rowsNamed (wordsFrom text place)))
 
 pub rest-all : (text : List ℕ) → withRest text 0 0 ≡ asSet (rowsNamed (wordsOf text))

@@ -16,7 +16,7 @@ use Rattle.steps.specs.Sets.{setOf}
 use Rattle.text.specs.Text.{digits, decimal}
 use Rattle.text.proofs.Decimal.{decimal-one, decimal-two}
 use Rattle.row_list.specs.Answers.{listAnswer}
-use Rattle.row_list.specs.Lists.{Listed, noList, sameText, rowNamed, rowsNamed, asSet}
+use Rattle.row_list.specs.Lists.{Parsed, noList, sameText, rowNamed, rowsNamed, asSet}
 use Rattle.row_list.specs.Own.{digitRow}
 use Rattle.row_list.proofs.Texts.{unlike}
 
@@ -26,7 +26,7 @@ unfolding values
 own-bit = agree (λ (r : ℕ). 1 * 2 ^ r % 2 ^ 16) (λ (r : ℕ). 2 ^ r) 16 refl
 
 -- what a word lists alone
-abbrev alone : List ℕ → Listed ℕ
+abbrev alone : List ℕ → Parsed ℕ
 alone word = asSet (rowsNamed (word ∷ []))
 
 no-row : (word : List ℕ) → ((r : ℕ) → r < 14 → sameText word (decimal r) ≡ false) → noList ≡ alone word

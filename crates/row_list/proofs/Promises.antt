@@ -7,7 +7,7 @@ use Rattle.names.specs.Names.{codes}
 use Rattle.steps.specs.Sets.{setOf}
 use Rattle.text.specs.Text.{digits, decimal}
 use Rattle.row_list.specs.declared.RowList.the-variants.{Rows, NoList}
-use Rattle.row_list.specs.Lists.{sameText, wordsOf, rowNamed, rowsNamed, rowsOf}
+use Rattle.row_list.specs.Lists.{sameText, wordsOf, rowNamed, rowsNamed, rowsListed}
 use Rattle.row_list.specs.Promises.{ListsApart, WorkedLists}
 
 pub listsApart : ListsApart
@@ -17,5 +17,5 @@ listsApart NoList (Rows b) e = never (cc)
 listsApart NoList NoList e = refl
 
 pub workedLists : WorkedLists
-unfolding sameText wordsOf rowNamed rowsNamed rowsOf setOf codes digits decimal firstFrom
+unfolding sameText wordsOf rowNamed rowsNamed rowsListed setOf codes digits decimal firstFrom
 workedLists = (refl, refl, refl, refl, refl, refl, refl, refl, refl, refl, refl, refl, refl)

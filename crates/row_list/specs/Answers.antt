@@ -3,8 +3,8 @@
 use Prim.Native.Nat.{ℕ}
 use Rattle.row_list.specs.declared.RowList.{RowList}
 use Rattle.row_list.specs.declared.RowList.the-variants.{Rows, NoList}
-use Rattle.row_list.specs.Lists.{Listed, listed, noList}
+use Rattle.row_list.specs.Lists.{Parsed, listed, noList}
 
-abbrev pub listAnswer : RowList → Listed ℕ
+abbrev pub listAnswer : RowList → Parsed ℕ
 listAnswer (Rows set) = listed set
 listAnswer NoList = noList

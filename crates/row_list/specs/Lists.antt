@@ -32,33 +32,34 @@ unfoldable pub rowNamed : List ℕ → Found
 rowNamed word = firstBelow 14 (λ r. sameText word (decimal r))
 
 -- what a text lists; or it is no list
-pub data Listed (A : Type 0) : Type 0 where
-  listed : A → Listed A
-  noList : Listed A
+pub data Parsed (A : Type 0) : Type 0 where
+  listed : A → Parsed A
+  noList : Parsed A
 
 -- a row, and those listed after it
-abbrev pub before : Found → Listed (List ℕ) → Listed (List ℕ)
-before (at r) (listed rows) = listed (r ∷ rows)
-before (at r) noList = noList
-before none rest = noList
+abbrev pub andRows : Found → Parsed (List ℕ) → Parsed (List ℕ)
+andRows (at r) (listed rows) = listed (r ∷ rows)
+andRows (at r) noList = noList
+andRows none rest = noList
 
 -- the rows that words name, one each; no list where a word names none
-unfoldable pub rowsNamed : List (List ℕ) → Listed (List ℕ)
+unfoldable pub rowsNamed : List (List ℕ) → Parsed (List ℕ)
 rowsNamed [] = listed []
-rowsNamed (word ∷ words) = let rest = rowsNamed words in before (rowNamed word) rest
+rowsNamed (word ∷ words) = let rest = rowsNamed words in andRows (rowNamed word) rest
 
+-- all fourteen rows
 abbrev pub allRows : List ℕ
 allRows = 0 ∷ 1 ∷ 2 ∷ 3 ∷ 4 ∷ 5 ∷ 6 ∷ 7 ∷ 8 ∷ 9 ∷ 10 ∷ 11 ∷ 12 ∷ 13 ∷ []
 
 -- the rows of a list, in its order
-unfoldable pub rowsOf : List ℕ → Listed (List ℕ)
-rowsOf text = choose (sameText text (codes "none")) (listed []) (choose (sameText text (codes "all")) (listed allRows) (rowsNamed (wordsOf text)))
+unfoldable pub rowsListed : List ℕ → Parsed (List ℕ)
+rowsListed text = choose (sameText text (codes "none")) (listed []) (choose (sameText text (codes "all")) (listed allRows) (rowsNamed (wordsOf text)))
 
 -- the rows as a set
-abbrev pub asSet : Listed (List ℕ) → Listed ℕ
+abbrev pub asSet : Parsed (List ℕ) → Parsed ℕ
 asSet (listed rows) = listed (setOf rows)
 asSet noList = noList
 
 -- the set of the rows of a list
-abbrev pub listOf : List ℕ → Listed ℕ
-listOf text = asSet (rowsOf text)
+abbrev pub listOf : List ℕ → Parsed ℕ
+listOf text = asSet (rowsListed text)

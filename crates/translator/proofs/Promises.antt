@@ -1,7 +1,6 @@
 -- The promises of specs/Promises.antt.
 -- Assumes nothing.
 use mathlib.Core.Path.{_≡_, sym, _∙_, ap}
-use mathlib.Core.List.{[]}
 use lib.ListN.{length}
 use Prim.Native.Nat.{ℕ}
 use Rattle.laws.proofs.Never.{never}

@@ -21,7 +21,8 @@ abbrev pub orLater : Found → Found → Found
 orLater (at r) later = at r
 orLater none later = later
 
--- the first row that a step reads and that nobody filled before it; none where a step that breaks a rule comes first. `earlier` are the steps before
+-- the first row that a step reads and that nobody filled before it; none where a step that breaks a rule comes first;
+-- `earlier` are the steps before
 unfoldable pub unfilledRow : Terms → List Step → List Step → Found
 unfilledRow t earlier [] = none
 unfilledRow t earlier (s ∷ steps) =
