@@ -1,7 +1,6 @@
-// How many pairs steps are written as.
+// The first fault of steps, or how many pairs they are written as.
 ghost use mathlib.Core.Path.{_≡_};
 ghost use mathlib.Core.Bool.{true};
-ghost use mathlib.Core.List.{[]};
 ghost use Prim.Native.Nat.{ℕ, _*_, _≤_};
 ghost use lib.ListN.{length};
 ghost use Rattle.laws.specs.AnswerAt.{accepted};
@@ -73,7 +72,7 @@ pub enum Measured {
 // Goes over n steps, as far as the first fault. A step's target is filled after the step.
 pub fn measure(sheet: &[u8], n: usize, terms: Terms) -> Measured
     requires { ⌜ (24 * n ≤ length (now sheet)) × (n ≤ 256) ⌝ }
-    ensures { λ r. ⌜ measuredAnswer r ≡ unlessFault (firstFault terms [] (stepsFrom (now (sheet .entry)) 0 n)) (accepted (length (pairsOf (stepsFrom (now (sheet .entry)) 0 n)))) ⌝ }
+    ensures { λ r. ⌜ measuredAnswer r ≡ unlessFault (firstFault terms (stepsFrom (now (sheet .entry)) 0 n)) (accepted (length (pairsOf (stepsFrom (now (sheet .entry)) 0 n)))) ⌝ }
 {
     let mut filled = terms.filled;
     let mut i = 0;

@@ -1,9 +1,10 @@
 -- Which rows are filled before a step, and its fault by them.
 -- Assumes nothing.
 use mathlib.Core.Path.{_≡_, refl, sym, _∙_, ap}
-use mathlib.Core.Bool.{Bool, true, false, not, _&&_, _||_}
+use mathlib.Core.Bool.{Bool, true, false, not, _&&_, _||_, or-false, or-assoc, or-comm}
 use mathlib.Core.List.{List, [], _∷_}
-use Prim.Native.Nat.{ℕ, suc, _+_, _-_, _*_, _^_, _≤_, _<_}
+use Prim.Native.Nat.{ℕ, suc, _+_, _-_, _*_, _%_, _^_, _≤_, _<_}
+use native.Mathlib.Nat.{mod-eq-of-lt}
 use native.Mathlib.Numerals.{add-one}
 use native.Mathlib.Omega.{arith}
 use lib.Bits.{bitOr}
@@ -13,7 +14,7 @@ use Rattle.laws.proofs.Never.{never}
 use Rattle.laws.proofs.Tests.{both-true, same-tests}
 use Rattle.steps.specs.declared.Step.{Step}
 use Rattle.steps.specs.declared.Terms.{Terms}
-use Rattle.steps.specs.Faults.{setBy, isFilled, every, Fault, sound, fault, stepFault, firstFault}
+use Rattle.steps.specs.Faults.{setBy, isFilled, every, Fault, sound, fault, stepFault, faultAfter}
 use Rattle.steps.specs.Reads.{readsBy, reads}
 use Rattle.steps.specs.Rules.{table, usesOf, keeps}
 use Rattle.steps.specs.Sets.{inSet}
@@ -119,26 +120,16 @@ same-fault p q i s f = go (keeps s) refl
 abbrev pub Known : Terms → List Step → ℕ → Type 0
 Known t earlier set = (r : ℕ) → inSet set r ≡ isFilled t earlier r
 
-or-false : (p : Bool) → p ≡ p || false
-or-false true = refl
-or-false false = refl
-
-or-between : (p q r : Bool) → (p || r) || q ≡ p || (q || r)
-or-between true q r = refl
-or-between false true true = refl
-or-between false true false = refl
-or-between false false true = refl
-or-between false false false = refl
-
 pub known-start : (t : Terms) → Known t [] (t .filled)
-known-start t r = or-false (inSet (t .filled) r)
+known-start t r = sym (or-false (inSet (t .filled) r))
 
 pub known-next : (t : Terms) (earlier : List Step) (set : ℕ) (s : Step) → Known t earlier set → Known t (s ∷ earlier) (bitOr set (2 ^ s .target))
 known-next t earlier set s k r =
     marked-or set (2 ^ s .target) r
     ∙ ap (λ (x : Bool). x || inSet (2 ^ s .target) r) (k r)
     ∙ ap (λ (x : Bool). isFilled t earlier r || x) (marked-alone (s .target) r)
-    ∙ or-between (inSet (t .filled) r) (eqb (s .target) r) (setBy earlier r)
+    ∙ or-assoc (inSet (t .filled) r) (setBy earlier r) (eqb (s .target) r)
+    ∙ ap (λ (x : Bool). inSet (t .filled) r || x) (or-comm (setBy earlier r) (eqb (s .target) r))
 
 -- the loop that looks for the first fault, with the rows that are filled before step i
 module _ (t : Terms) (s : List ℕ) (n i set : ℕ) (known : Known t (before s i) set) where
@@ -146,25 +137,27 @@ module _ (t : Terms) (s : List ℕ) (n i set : ℕ) (known : Known t (before s i
   found = stepFault (inSet set) i (stepAt s (24 * i))
 
   abbrev remains : Fault
-  remains = firstFault t (before s i) (stepsFrom s i (n - i))
+  remains = faultAfter t (before s i) (stepsFrom s i (n - i))
 
   by-list : stepFault (isFilled t (before s i)) i (stepAt s (24 * i)) ≡ found
   by-list = same-fault (isFilled t (before s i)) (inSet set) i (stepAt s (24 * i)) (λ r h. sym (known r))
 
   pub fault-here : i < n → (m : ℕ) → found ≡ fault m i → remains ≡ fault m i
-  unfolding firstFault stepsFrom
+  unfolding faultAfter stepsFrom
   fault-here h m e = let g : n - i ≡ suc (n - suc i) = omega arith in rw (g, before-length s i, by-list ∙ e)
 
-  pub fault-later : i < n → found ≡ sound → remains ≡ firstFault t (before s (i + 1)) (stepsFrom s (i + 1) (n - (i + 1)))
-  unfolding firstFault stepsFrom
+  pub fault-later : i < n → found ≡ sound → remains ≡ faultAfter t (before s (i + 1)) (stepsFrom s (i + 1) (n - (i + 1)))
+  unfolding faultAfter stepsFrom
   fault-later h e = let g : n - i ≡ suc (n - suc i) = omega arith in rw (g, before-length s i, by-list ∙ e, add-one)
 
   pub fault-none : n ≤ i → remains ≡ sound
-  unfolding firstFault stepsFrom
+  unfolding faultAfter stepsFrom
   fault-none h = let g : n - i ≡ 0 = omega arith in rw g
 
-  pub known-after : (next : ℕ) → next ≡ bitOr set (2 ^ stepAt s (24 * i) .target) → Known t (before s (i + 1)) next
-  known-after next e = rw (e, add-one i) (known-next t (before s i) set (stepAt s (24 * i)) known)
+  pub known-after : (next : ℕ) → stepAt s (24 * i) .target < 14 → next ≡ bitOr set (2 ^ (stepAt s (24 * i) .target % 16)) → Known t (before s (i + 1)) next
+  known-after next h e =
+      let m : stepAt s (24 * i) .target % 16 ≡ stepAt s (24 * i) .target = mod-eq-of-lt (omega arith) in
+      rw (e, m, add-one i) (known-next t (before s i) set (stepAt s (24 * i)) known)
 
 -- a step with no fault keeps the rules
 pub not-sound : {P : Type 0} (n i : ℕ) → fault n i ≡ sound → P

@@ -11,7 +11,7 @@ use lib.Pow.{field, mod-mod-pow}
 use Rattle.laws.specs.Choice.{choose}
 use Rattle.steps.specs.declared.Step.{Step}
 use Rattle.steps.specs.declared.Terms.{Terms}
-use Rattle.steps.specs.Faults.{terms, setBy, isFilled, every, AllFilled, Fault, sound, fault, firstOf, stepFault, firstFault}
+use Rattle.steps.specs.Faults.{terms, setBy, isFilled, every, FilledAfter, Fault, sound, fault, firstOf, stepFault, faultAfter}
 use Rattle.steps.specs.Promises.{firstBroken, HasAll, Within, SoundExactly, MarksAbove, AllRowsFilled, LargerAllows}
 use Rattle.steps.specs.Reads.{reads}
 use Rattle.steps.specs.Rules.{keeps, AllKeep}
@@ -20,22 +20,22 @@ use Rattle.steps.proofs.Filling.{reads-below, every-within, breaks-rule
 use Rattle.steps.proofs.Sets.{or-left}
 
 -- no fault, exactly
-passes : (t : Terms) (earlier steps : List Step) → firstFault t earlier steps ≡ sound → AllKeep steps × AllFilled t earlier steps
-unfolding firstFault
+passes : (t : Terms) (earlier steps : List Step) → faultAfter t earlier steps ≡ sound → AllKeep steps × FilledAfter t earlier steps
+unfolding faultAfter
 passes t earlier [] h = (tt, tt)
 passes t earlier (s ∷ steps) h = go (keeps s) refl (every (isFilled t earlier) (reads s)) refl (passes t (s ∷ earlier) steps)
   where
-    with-first : (x : Fault) → stepFault (isFilled t earlier) (length earlier) s ≡ x → firstOf x (firstFault t (s ∷ earlier) steps) ≡ sound
-    with-first x e = ap (λ (x : Fault). firstOf x (firstFault t (s ∷ earlier) steps)) (sym e) ∙ h
+    with-first : (x : Fault) → stepFault (isFilled t earlier) (length earlier) s ≡ x → firstOf x (faultAfter t (s ∷ earlier) steps) ≡ sound
+    with-first x e = ap (λ (x : Fault). firstOf x (faultAfter t (s ∷ earlier) steps)) (sym e) ∙ h
 
     go : (k : Bool) → keeps s ≡ k → (f : Bool) → every (isFilled t earlier) (reads s) ≡ f
-        → (firstFault t (s ∷ earlier) steps ≡ sound → AllKeep steps × AllFilled t (s ∷ earlier) steps) → AllKeep (s ∷ steps) × AllFilled t earlier (s ∷ steps)
+        → (faultAfter t (s ∷ earlier) steps ≡ sound → AllKeep steps × FilledAfter t (s ∷ earlier) steps) → AllKeep (s ∷ steps) × FilledAfter t earlier (s ∷ steps)
     go true p true q rest = let r = rest (with-first sound (keeps-rule (isFilled t earlier) (length earlier) s p ∙ ap (λ (x : Bool). byReads x (length earlier)) q)) in ((p, r .0), (q, r .1))
     go true p false q rest = not-sound 16 (length earlier) (with-first (fault 16 (length earlier)) (keeps-rule (isFilled t earlier) (length earlier) s p ∙ ap (λ (x : Bool). byReads x (length earlier)) q))
     go false p f q rest = not-sound 13 (length earlier) (with-first (fault 13 (length earlier)) (breaks-rule (isFilled t earlier) (length earlier) s p))
 
-found : (t : Terms) (earlier steps : List Step) → AllKeep steps × AllFilled t earlier steps → firstFault t earlier steps ≡ sound
-unfolding firstFault
+found : (t : Terms) (earlier steps : List Step) → AllKeep steps × FilledAfter t earlier steps → faultAfter t earlier steps ≡ sound
+unfolding faultAfter
 found t earlier [] a = refl
 found t earlier (s ∷ steps) a =
     rw (keeps-rule (isFilled t earlier) (length earlier) s (a .0 .0), a .1 .0) (found t (s ∷ earlier) steps (a .0 .1, a .1 .1))
@@ -44,8 +44,8 @@ pub soundExactly : SoundExactly
 soundExactly t steps = (passes t [] steps, found t [] steps)
 
 -- lists with the same rows of the sheet
-first-same : (t u : Terms) → ((r : ℕ) → r < 14 → inSet (t .filled) r ≡ inSet (u .filled) r) → (earlier steps : List Step) → firstFault t earlier steps ≡ firstFault u earlier steps
-unfolding firstFault
+first-same : (t u : Terms) → ((r : ℕ) → r < 14 → inSet (t .filled) r ≡ inSet (u .filled) r) → (earlier steps : List Step) → faultAfter t earlier steps ≡ faultAfter u earlier steps
+unfolding faultAfter
 first-same t u f earlier [] = refl
 first-same t u f earlier (s ∷ steps) =
     let here = same-fault (isFilled t earlier) (isFilled u earlier) (length earlier) s (λ r h. ap (λ (x : Bool). x || setBy earlier r) (f r h)) in
@@ -67,13 +67,13 @@ every-true : (rs : List ℕ) → every (λ (r : ℕ). true) rs ≡ true
 every-true [] = refl
 every-true (r ∷ rs) = every-true rs
 
-only-rules : (t : Terms) → HasAll t → (earlier steps : List Step) → firstFault t earlier steps ≡ firstBroken (length earlier) steps
-unfolding firstFault firstBroken
+only-rules : (t : Terms) → HasAll t → (earlier steps : List Step) → faultAfter t earlier steps ≡ firstBroken (length earlier) steps
+unfolding faultAfter firstBroken
 only-rules t all earlier [] = refl
 only-rules t all earlier (s ∷ steps) = go (keeps s) refl (only-rules t all (s ∷ earlier) steps)
   where
-    go : (k : Bool) → keeps s ≡ k → firstFault t (s ∷ earlier) steps ≡ firstBroken (suc (length earlier)) steps
-        → firstOf (stepFault (isFilled t earlier) (length earlier) s) (firstFault t (s ∷ earlier) steps) ≡ choose (keeps s) (firstBroken (suc (length earlier)) steps) (fault 13 (length earlier))
+    go : (k : Bool) → keeps s ≡ k → faultAfter t (s ∷ earlier) steps ≡ firstBroken (suc (length earlier)) steps
+        → firstOf (stepFault (isFilled t earlier) (length earlier) s) (faultAfter t (s ∷ earlier) steps) ≡ choose (keeps s) (firstBroken (suc (length earlier)) steps) (fault 13 (length earlier))
     go true e rest =
         let f = every-within (λ (r : ℕ). true) (isFilled t earlier) (reads s) (reads-below s e) (λ r h p. or-left (inSet (t .filled) r) (setBy earlier r) (all r h)) (every-true (reads s)) in
         rw (keeps-rule (isFilled t earlier) (length earlier) s e, f, e) rest
@@ -88,7 +88,7 @@ or-within true q r f e = or-left q r (f refl)
 or-within false true r f e = refl
 or-within false false r f e = e
 
-still-filled : (t u : Terms) → Within t u → (earlier steps : List Step) → AllKeep steps → AllFilled t earlier steps → AllFilled u earlier steps
+still-filled : (t u : Terms) → Within t u → (earlier steps : List Step) → AllKeep steps → FilledAfter t earlier steps → FilledAfter u earlier steps
 still-filled t u w earlier [] k a = tt
 still-filled t u w earlier (s ∷ steps) k a = (
   every-within (isFilled t earlier) (isFilled u earlier) (reads s) (reads-below s (k .0)) (λ r h. or-within (inSet (t .filled) r) (inSet (u .filled) r) (setBy earlier r) (w r h)) (a .0),

@@ -1,6 +1,7 @@
 -- The promises of specs/Promises.antt.
 -- Assumes nothing.
-use Rattle.steps.specs.Promises.{ValueReads, TargetAlone, SoundExactly, MarksAbove, AllRowsFilled, LargerAllows, WorkedFaults}
+use Rattle.steps.specs.Promises.{ValueReads, TargetAlone, SoundExactly, MarksAbove, AllRowsFilled, LargerAllows, FilledAlone, WorkedFaults}
+use Rattle.steps.proofs.Alike as alike
 use Rattle.steps.proofs.Drawn.{value-reads, taken-other}
 use Rattle.steps.proofs.FirstFaults as first
 use Rattle.steps.proofs.Worked as worked
@@ -25,3 +26,6 @@ largerAllows = first.largerAllows
 
 pub workedFaults : WorkedFaults
 workedFaults = worked.workedFaults
+
+pub filledAlone : FilledAlone
+filledAlone = alike.filledAlone

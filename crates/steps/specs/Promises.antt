@@ -5,11 +5,12 @@ use mathlib.Core.List.{List, [], _∷_}
 use mathlib.Core.Logic.{_≢_}
 use mathlib.Core.Path.{_≡_}
 use Prim.Native.Nat.{ℕ, suc, _+_, _%_, _^_, _<_}
-use Rattle.laws.specs.Choice.{choose}
+use lib.ListN.{length}
+use Rattle.laws.specs.Choice.{choose, either}
 use Rattle.steps.specs.declared.Step.{Step}
 use Rattle.steps.specs.declared.Terms.{Terms}
-use Rattle.steps.specs.Faults.{terms, AllFilled, Fault, sound, fault, firstFault}
-use Rattle.steps.specs.Meaning.{rowAt, valueBy, taken}
+use Rattle.steps.specs.Faults.{terms, setBy, AllFilled, Fault, sound, fault, firstFault}
+use Rattle.steps.specs.Meaning.{rowAt, valueBy, taken, meaning}
 use Rattle.steps.specs.Reads.{reads}
 use Rattle.steps.specs.Rules.{keeps, AllKeep}
 use Rattle.steps.specs.Sets.{inSet}
@@ -31,11 +32,11 @@ TargetAlone = (s : Step) (x : List ℕ) (r : ℕ) → r ≢ s .target → rowAt 
 abbrev pub SoundExactly : Type 0
 SoundExactly =
     (t : Terms) (steps : List Step)
-    → (firstFault t [] steps ≡ sound → AllKeep steps × AllFilled t [] steps) × (AllKeep steps × AllFilled t [] steps → firstFault t [] steps ≡ sound)
+    → (firstFault t steps ≡ sound → AllKeep steps × AllFilled t steps) × (AllKeep steps × AllFilled t steps → firstFault t steps ≡ sound)
 
 -- marks above row 13 are ignored
 abbrev pub MarksAbove : Type 0
-MarksAbove = (filled : ℕ) (steps : List Step) → firstFault (terms filled) [] steps ≡ firstFault (terms (filled % 2 ^ 14)) [] steps
+MarksAbove = (filled : ℕ) (steps : List Step) → firstFault (terms filled) steps ≡ firstFault (terms (filled % 2 ^ 14)) steps
 
 -- document 01's first fault: the first step that breaks a rule, the steps' indices beginning at i
 unfoldable pub firstBroken : ℕ → List Step → Fault
@@ -46,9 +47,9 @@ firstBroken i (s ∷ steps) = let later = firstBroken (suc i) steps in choose (k
 abbrev pub HasAll : Terms → Type 0
 HasAll t = (r : ℕ) → r < 14 → inSet (t .filled) r ≡ true
 
--- with all rows filled it is the only one
+-- with all rows in the list that is the only fault
 abbrev pub AllRowsFilled : Type 0
-AllRowsFilled = (t : Terms) (steps : List Step) → HasAll t → firstFault t [] steps ≡ firstBroken 0 steps
+AllRowsFilled = (t : Terms) (steps : List Step) → HasAll t → firstFault t steps ≡ firstBroken 0 steps
 
 -- the rows that are in one list are in the other
 abbrev pub Within : Terms → Terms → Type 0
@@ -56,7 +57,15 @@ Within small large = (r : ℕ) → r < 14 → inSet (small .filled) r ≡ true �
 
 -- a larger list refuses nothing that a smaller one allows
 abbrev pub LargerAllows : Type 0
-LargerAllows = (small large : Terms) (steps : List Step) → Within small large → firstFault small [] steps ≡ sound → firstFault large [] steps ≡ sound
+LargerAllows = (small large : Terms) (steps : List Step) → Within small large → firstFault small steps ≡ sound → firstFault large steps ≡ sound
+
+-- what is read of the start is what was filled: two starts that hold the same in the rows of the list end with the same in
+-- every row that is in the list or that a step sets
+abbrev pub FilledAlone : Type 0
+FilledAlone =
+    (t : Terms) (steps : List Step) (x y : List ℕ) → AllKeep steps → AllFilled t steps → length x ≡ 14 → length y ≡ 14
+    → ((r : ℕ) → r < 14 → inSet (t .filled) r ≡ true → rowAt x r ≡ rowAt y r)
+    → (r : ℕ) → r < 14 → either (inSet (t .filled) r) (setBy steps r) ≡ true → rowAt (meaning steps x) r ≡ rowAt (meaning steps y) r
 
 -- steps with a kind, a target, a and b, in lanes of the width of a code
 abbrev pub stepOf : ℕ → ℕ → ℕ → ℕ → ℕ → Step
@@ -79,15 +88,27 @@ copied = stepOf 1 5 2 0 0
 abbrev pub noStep : Step
 noStep = stepOf 4 7 5 6 3
 
+-- row 9 is a constant
+abbrev pub constant : Step
+constant = stepOf 0 9 0 0 0
+
+-- row 6 is by bit row 2 or row 5, as row 8 says
+abbrev pub picked : Step
+picked = record { kind = 14; target = 6; a = 2; b = 5; c = 8; width = 0; amount = 0; sign = 0; low = 0; high = 0 }
+
 -- worked faults, each with its list and its steps
 pub record WorkedFaults : Type 0 where
-  pub both-filled : firstFault (terms (2 ^ 0 + 2 ^ 1)) [] (sum ∷ copied ∷ []) ≡ sound
-  pub b-not-filled : firstFault (terms (2 ^ 0)) [] (sum ∷ copied ∷ []) ≡ fault 16 0
-  pub own-target : firstFault (terms (2 ^ 0)) [] (more ∷ []) ≡ fault 16 0
-  pub own-target-filled : firstFault (terms (2 ^ 0 + 2 ^ 1)) [] (sum ∷ more ∷ []) ≡ sound
-  pub set-later : firstFault (terms (2 ^ 0 + 2 ^ 1)) [] (copied ∷ sum ∷ []) ≡ fault 16 0
-  pub high-marks : firstFault (terms (2 ^ 14 + 2 ^ 15)) [] (copied ∷ []) ≡ fault 16 0
-  pub rule-first : firstFault (terms 0) [] (noStep ∷ []) ≡ fault 13 0
-  pub sixteen-then-thirteen : firstFault (terms 0) [] (copied ∷ noStep ∷ []) ≡ fault 16 0
-  pub thirteen-then-sixteen : firstFault (terms 0) [] (noStep ∷ copied ∷ []) ≡ fault 13 0
-  pub no-step : firstFault (terms 0) [] [] ≡ sound
+  pub both-filled : firstFault (terms (2 ^ 0 + 2 ^ 1)) (sum ∷ copied ∷ []) ≡ sound
+  pub b-not-filled : firstFault (terms (2 ^ 0)) (sum ∷ copied ∷ []) ≡ fault 16 0
+  pub own-target : firstFault (terms (2 ^ 0)) (more ∷ []) ≡ fault 16 0
+  pub own-target-filled : firstFault (terms (2 ^ 0 + 2 ^ 1)) (sum ∷ more ∷ []) ≡ sound
+  pub set-later : firstFault (terms (2 ^ 0 + 2 ^ 1)) (copied ∷ sum ∷ []) ≡ fault 16 0
+  pub high-marks : firstFault (terms (2 ^ 14 + 2 ^ 15)) (copied ∷ []) ≡ fault 16 0
+  pub rule-first : firstFault (terms 0) (noStep ∷ []) ≡ fault 13 0
+  pub sixteen-then-thirteen : firstFault (terms 0) (copied ∷ noStep ∷ []) ≡ fault 16 0
+  pub thirteen-then-sixteen : firstFault (terms 0) (noStep ∷ copied ∷ []) ≡ fault 13 0
+  pub no-step : firstFault (terms 0) [] ≡ sound
+  pub unused-reads-nothing : firstFault (terms (2 ^ 2)) (copied ∷ constant ∷ []) ≡ sound
+  pub set-long-before : firstFault (terms (2 ^ 0 + 2 ^ 1)) (sum ∷ constant ∷ copied ∷ []) ≡ sound
+  pub c-not-filled : firstFault (terms (2 ^ 0 + 2 ^ 1)) (sum ∷ copied ∷ more ∷ picked ∷ []) ≡ fault 16 3
+  pub c-filled : firstFault (terms (2 ^ 0 + 2 ^ 1 + 2 ^ 8)) (sum ∷ copied ∷ more ∷ picked ∷ []) ≡ sound

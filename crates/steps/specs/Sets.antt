@@ -6,6 +6,7 @@ use Prim.Native.Nat.{ℕ, _/_, _%_, _^_}
 use lib.Bits.{bitOr}
 use lib.Dec.{eqb}
 
+-- row r is in a set
 unfoldable pub inSet : ℕ → ℕ → Bool
 inSet rows r = eqb (rows / 2 ^ r % 2) 1
 

@@ -1,7 +1,7 @@
 // What is wrong with a step, and the rows that are filled before it.
 ghost use mathlib.Core.Path.{_≡_};
 ghost use mathlib.Core.Bool.{true};
-ghost use Prim.Native.Nat.{ℕ, _^_, _<_};
+ghost use Prim.Native.Nat.{ℕ, _%_, _^_, _<_};
 ghost use lib.Bits.{bitOr};
 ghost use Rattle.steps.specs.Faults.{every, stepFault};
 ghost use Rattle.steps.specs.Own.{faultAt};
@@ -9,9 +9,9 @@ ghost use Rattle.steps.specs.Reads.{reads};
 ghost use Rattle.steps.specs.Rules.{keeps};
 ghost use Rattle.steps.specs.Sets.{inSet};
 use crate::Step;
-use crate::rules::A;
-use crate::rules::B;
-use crate::rules::C;
+use crate::rules::A_VALUES;
+use crate::rules::B_VALUES;
+use crate::rules::C_VALUES;
 use crate::rules::keeps_rules;
 use insn::Refusal;
 
@@ -29,9 +29,9 @@ pub fn has_row(set: u16, r: u8) -> bool
     (set >> r) % 2 == 1
 }
 
-// A set with row r.
+// A set with row r; r counts modulo 16.
 pub fn with_row(set: u16, r: u8) -> u16
-    ensures { λ x. ⌜ (r < 16 → x ≡ bitOr set (2 ^ r)) ⌝ }
+    ensures { λ x. ⌜ x ≡ bitOr set (2 ^ (r % 16)) ⌝ }
 {
     set | 1u16 << (r % 16)
 }
@@ -45,7 +45,7 @@ fn reads_within(s: Step, set: u16) -> bool
     let a = has_row(set, s.a);
     let b = has_row(set, s.b);
     let c = has_row(set, s.c);
-    ((A[k] < 2) | a) & (((B[k] < 2) | b) & ((C[k] < 2) | c))
+    ((A_VALUES[k] < 2) | a) & (((B_VALUES[k] < 2) | b) & ((C_VALUES[k] < 2) | c))
 }
 
 // The fault of a step, where a set has the rows that are filled before it.

@@ -7,11 +7,11 @@ ghost use Rattle.steps.specs.Own.{limit};
 use crate::Step;
 
 // How many values each byte of a kind, 0 to 14, may have; a byte that the kind does not use has one, 0.
-pub const A: [u8; 15] = [1, 14, 14, 14, 14, 14, 14, 14, 14, 14, 14, 14, 14, 14, 14];
+pub const A_VALUES: [u8; 15] = [1, 14, 14, 14, 14, 14, 14, 14, 14, 14, 14, 14, 14, 14, 14];
 
-pub const B: [u8; 15] = [1, 1, 14, 14, 14, 14, 14, 14, 1, 1, 1, 14, 14, 14, 14];
+pub const B_VALUES: [u8; 15] = [1, 1, 14, 14, 14, 14, 14, 14, 1, 1, 1, 14, 14, 14, 14];
 
-pub const C: [u8; 15] = [1, 1, 1, 1, 1, 1, 1, 1, 1, 1, 1, 1, 1, 1, 14];
+pub const C_VALUES: [u8; 15] = [1, 1, 1, 1, 1, 1, 1, 1, 1, 1, 1, 1, 1, 1, 14];
 
 const WIDTH: [u8; 15] = [1, 1, 4, 4, 3, 1, 1, 1, 1, 4, 4, 3, 3, 3, 1];
 
@@ -23,7 +23,9 @@ fn keeps_rows(s: Step) -> bool
     ensures { λ r. ⌜ r ≡ keepsRows (usesOf (s .kind)) s ⌝ }
 {
     let k = s.kind as usize;
-    (s.target < 14) & ((s.a < A[k]) & ((s.b < B[k]) & ((s.c < C[k]) & (s.width < WIDTH[k]))))
+    (s.target < 14)
+        & ((s.a < A_VALUES[k])
+            & ((s.b < B_VALUES[k]) & ((s.c < C_VALUES[k]) & (s.width < WIDTH[k]))))
 }
 
 // How many amounts a kind and a width allow.

@@ -36,7 +36,9 @@ largerTranslates small large bytes out n w e =
     (l, ap (λ (x : AnswerAt ℕ). writtenBy x (halfwordsOf (recordsOf bytes)) out) (l ∙ sym e))
 
 pub marksIgnored : MarksIgnored
-marksIgnored filled bytes room = ap (λ (f : Fault). translationBy f bytes room) (steps.marksAbove filled (stepsOf bytes))
+marksIgnored filled bytes out =
+    let e = ap (λ (f : Fault). translationBy f bytes (length out)) (steps.marksAbove filled (stepsOf bytes)) in
+    (e, ap (λ (a : AnswerAt ℕ). writtenBy a (halfwordsOf (recordsOf bytes)) out) e)
 
 pub allWritten : AllWritten
 allWritten steps k = written-length (pairsOf steps) (sheet-written steps k)

@@ -2,7 +2,7 @@
 -- Assumes nothing.
 use mathlib.Core.Path.{_≡_, refl, sym, _∙_, ap}
 use mathlib.Core.Bool.{Bool, true, false, not}
-use mathlib.Core.List.{List, [], _++_}
+use mathlib.Core.List.{List, _++_}
 use mathlib.Core.Logic.{_≢_}
 use Prim.Native.Nat.{ℕ, _*_, _%_, _≤_, _<_}
 use native.Mathlib.Omega.{arith}
@@ -26,7 +26,7 @@ use Rattle.recipes.proofs.Writes.{written-length}
 
 module _ (t : Terms) (s : List ℕ) (room : ℕ) where
   abbrev first : Fault
-  first = firstFault t [] (stepsOf s)
+  first = firstFault t (stepsOf s)
 
   pub uneven : (length s % 24 ≡ 0 → ⊥) → translationOf t s room ≡ refused 12
   unfolding translationBy
@@ -68,7 +68,7 @@ module _ (t : Terms) (s : List ℕ) (room n : ℕ) where
   unfolding translationBy
   translates = by1 (eqb (length s % 24) 0) refl
     where
-      by4 : (b : Bool) → ltb room (2 * count) ≡ b → length s % 24 ≡ 0 → length s ≤ 6144 → firstFault t [] (stepsOf s) ≡ sound
+      by4 : (b : Bool) → ltb room (2 * count) ≡ b → length s % 24 ≡ 0 → length s ≤ 6144 → firstFault t (stepsOf s) ≡ sound
           → choose b (refused 14) (accepted count) ≡ accepted n → Translates t s room n
       by4 true e w f k g = not-refused n 14 g
       by4 false e w f k g =
@@ -77,17 +77,17 @@ module _ (t : Terms) (s : List ℕ) (room n : ℕ) where
           let a = soundExactly t (stepsOf s) .0 k in
           record { whole = w; few = f; keep = a .0; filled = a .1; count = p; long = omega arith }
 
-      by3 : (x : Fault) → firstFault t [] (stepsOf s) ≡ x → length s % 24 ≡ 0 → length s ≤ 6144 → unlessFault x answer ≡ accepted n → Translates t s room n
+      by3 : (x : Fault) → firstFault t (stepsOf s) ≡ x → length s % 24 ≡ 0 → length s ≤ 6144 → unlessFault x answer ≡ accepted n → Translates t s room n
       by3 sound e w f g = by4 (ltb room (2 * count)) refl w f e g
       by3 (fault m i) e w f g = not-refused-at n m i g
 
       by2 : (b : Bool) → ltb 6144 (length s) ≡ b → length s % 24 ≡ 0
-          → choose b (refused 12) (unlessFault (firstFault t [] (stepsOf s)) answer) ≡ accepted n → Translates t s room n
+          → choose b (refused 12) (unlessFault (firstFault t (stepsOf s)) answer) ≡ accepted n → Translates t s room n
       by2 true e w g = not-refused n 12 g
-      by2 false e w g = by3 (firstFault t [] (stepsOf s)) refl w (ltb-false 6144 (length s) e) g
+      by2 false e w g = by3 (firstFault t (stepsOf s)) refl w (ltb-false 6144 (length s) e) g
 
       by1 : (b : Bool) → eqb (length s % 24) 0 ≡ b
-          → choose (not b) (refused 12) (choose (ltb 6144 (length s)) (refused 12) (unlessFault (firstFault t [] (stepsOf s)) answer)) ≡ accepted n
+          → choose (not b) (refused 12) (choose (ltb 6144 (length s)) (refused 12) (unlessFault (firstFault t (stepsOf s)) answer)) ≡ accepted n
           → Translates t s room n
       by1 true e g = by2 (ltb 6144 (length s)) refl (eqb-true (length s % 24) 0 e) g
       by1 false e g = not-refused n 12 g

@@ -23,7 +23,7 @@ Exactly =
     (t : Terms) (bytes : List ℕ) (room n : ℕ)
     → (translationOf t bytes room ≡ accepted n → Translates t bytes room n) × (Translates t bytes room n → translationOf t bytes room ≡ accepted n)
 
--- a list with all rows: the answer and the output are document 01's, whose only fault of a step is 13
+-- with all rows in the list answer and output are those of a sheet without a list: the only fault of a step is 13
 abbrev pub AsBefore : Type 0
 AsBefore =
     (t : Terms) (bytes out : List ℕ) → HasAll t
@@ -39,7 +39,9 @@ LargerTranslates =
 -- marks above row 13 are ignored
 abbrev pub MarksIgnored : Type 0
 MarksIgnored =
-    (filled : ℕ) (bytes : List ℕ) (room : ℕ) → translationOf (terms filled) bytes room ≡ translationOf (terms (filled % 2 ^ 14)) bytes room
+    (filled : ℕ) (bytes out : List ℕ)
+    → (translationOf (terms filled) bytes (length out) ≡ translationOf (terms (filled % 2 ^ 14)) bytes (length out))
+    × (writtenOf (terms filled) bytes out ≡ writtenOf (terms (filled % 2 ^ 14)) bytes out)
 
 -- every record of steps that keep the rules is written: two halfwords each
 abbrev pub AllWritten : Type 0

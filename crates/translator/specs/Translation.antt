@@ -1,18 +1,17 @@
 -- What the translator answers, and what it leaves in the output: document 01, 'Sum sheet' and the refusals; document 02,
 -- F-6.
 -- Assumes nothing.
-use mathlib.Core.Bool.{not}
-use mathlib.Core.List.{List, [], _++_}
+use mathlib.Core.List.{List, _++_}
 use mathlib.Core.Path.{_≡_}
 use Prim.Native.Nat.{ℕ, _*_, _%_, _≤_}
-use lib.Dec.{ltb, eqb}
+use lib.Dec.{ltb}
 use lib.ListN.{length, drop}
 use Rattle.laws.specs.AnswerAt.{AnswerAt, accepted, refused, refusedAt}
 use Rattle.laws.specs.Choice.{choose}
 use Rattle.insn.specs.declared.Insn.{Insn}
 use Rattle.recipes.specs.Pairs.{pairsOf, halfwordsOf}
 use Rattle.steps.specs.declared.Terms.{Terms}
-use Rattle.steps.specs.Faults.{AllFilled, Fault, firstFault, unlessFault}
+use Rattle.steps.specs.Faults.{AllFilled, Fault, firstFault, unlessRefused}
 use Rattle.steps.specs.Rules.{AllKeep}
 use Rattle.steps.specs.Steps.{stepsOf}
 
@@ -20,18 +19,16 @@ use Rattle.steps.specs.Steps.{stepsOf}
 abbrev pub recordsOf : List ℕ → List Insn
 recordsOf bytes = pairsOf (stepsOf bytes)
 
--- for a sheet's bytes, whose steps have this first fault, with `room` halfwords of output: the number of pairs, or the
--- refusal
+-- for a sheet's bytes, whose steps have this first fault, with `room` halfwords of output: 12, or the fault, or 14; else
+-- the number of pairs
 unfoldable pub translationBy : Fault → List ℕ → ℕ → AnswerAt ℕ
 translationBy first bytes room =
-    choose (not (eqb (length bytes % 24) 0)) (refused 12)
-    (choose (ltb 6144 (length bytes)) (refused 12)
-    (unlessFault first
+    unlessRefused bytes first
     (choose (ltb room (2 * length (recordsOf bytes))) (refused 14)
-    (accepted (length (recordsOf bytes))))))
+    (accepted (length (recordsOf bytes))))
 
 abbrev pub translationOf : Terms → List ℕ → ℕ → AnswerAt ℕ
-translationOf t bytes room = translationBy (firstFault t [] (stepsOf bytes)) bytes room
+translationOf t bytes room = translationBy (firstFault t (stepsOf bytes)) bytes room
 
 -- the pairs' halfwords at the front of the output; a refusal leaves it as it was
 unfoldable pub writtenBy : AnswerAt ℕ → List ℕ → List ℕ → List ℕ
@@ -48,6 +45,6 @@ pub record Translates (t : Terms) (bytes : List ℕ) (room n : ℕ) : Type 0 whe
   pub whole : length bytes % 24 ≡ 0
   pub few : length bytes ≤ 6144
   pub keep : AllKeep (stepsOf bytes)
-  pub filled : AllFilled t [] (stepsOf bytes)
+  pub filled : AllFilled t (stepsOf bytes)
   pub count : n ≡ length (recordsOf bytes)
   pub long : 2 * n ≤ room

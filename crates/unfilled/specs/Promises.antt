@@ -9,7 +9,7 @@ use Rattle.laws.specs.Search.{Found, at, none}
 use Rattle.steps.specs.declared.Step.{Step}
 use Rattle.steps.specs.declared.Terms.{Terms}
 use Rattle.steps.specs.Faults.{terms, Fault, sound, fault, firstFault}
-use Rattle.steps.specs.Promises.{sum, more, copied, noStep}
+use Rattle.steps.specs.Promises.{sum, more, copied, noStep, picked}
 use Rattle.unfilled.specs.declared.Unfilled.{Unfilled}
 use Rattle.unfilled.specs.Answers.{unfilledAnswer}
 use Rattle.unfilled.specs.Rows.{unfilledRow}
@@ -26,16 +26,17 @@ isNamed none = false
 
 -- a row is named exactly where the first fault is a 16
 abbrev pub UnfilledExactly : Type 0
-UnfilledExactly = (t : Terms) (steps : List Step) → isNamed (unfilledRow t [] steps) ≡ isSixteen (firstFault t [] steps)
+UnfilledExactly = (t : Terms) (steps : List Step) → isNamed (unfilledRow t steps) ≡ isSixteen (firstFault t steps)
 
 -- worked rows, each with its list and its steps
 pub record WorkedRows : Type 0 where
-  pub both-filled : unfilledRow (terms (2 ^ 0 + 2 ^ 1)) [] (sum ∷ copied ∷ []) ≡ none
-  pub b-not-filled : unfilledRow (terms (2 ^ 0)) [] (sum ∷ copied ∷ []) ≡ at 1
-  pub neither-filled : unfilledRow (terms 0) [] (sum ∷ []) ≡ at 0
-  pub own-target : unfilledRow (terms (2 ^ 0)) [] (more ∷ []) ≡ at 2
-  pub sixteen-then-thirteen : unfilledRow (terms 0) [] (copied ∷ noStep ∷ []) ≡ at 2
-  pub thirteen-then-sixteen : unfilledRow (terms 0) [] (noStep ∷ copied ∷ []) ≡ none
+  pub both-filled : unfilledRow (terms (2 ^ 0 + 2 ^ 1)) (sum ∷ copied ∷ []) ≡ none
+  pub b-not-filled : unfilledRow (terms (2 ^ 0)) (sum ∷ copied ∷ []) ≡ at 1
+  pub neither-filled : unfilledRow (terms 0) (sum ∷ []) ≡ at 0
+  pub own-target : unfilledRow (terms (2 ^ 0)) (more ∷ []) ≡ at 2
+  pub at-a-later-step : unfilledRow (terms (2 ^ 0 + 2 ^ 1)) (sum ∷ copied ∷ more ∷ picked ∷ []) ≡ at 8
+  pub sixteen-then-thirteen : unfilledRow (terms 0) (copied ∷ noStep ∷ []) ≡ at 2
+  pub thirteen-then-sixteen : unfilledRow (terms 0) (noStep ∷ copied ∷ []) ≡ none
 
 -- an answer says which case it is
 abbrev pub UnfilledApart : Type 0

@@ -1,7 +1,6 @@
 // The row that a refusal with 16 is about.
 ghost use mathlib.Core.Path.{_≡_};
 ghost use mathlib.Core.Bool.{true, not};
-ghost use mathlib.Core.List.{[]};
 ghost use Prim.Native.Nat.{_<_};
 ghost use lib.Dec.{leb};
 ghost use Rattle.laws.specs.Choice.{both};
@@ -16,9 +15,9 @@ use steps::Step;
 use steps::bytes::step_at;
 use steps::faults::has_row;
 use steps::faults::with_row;
-use steps::rules::A;
-use steps::rules::B;
-use steps::rules::C;
+use steps::rules::A_VALUES;
+use steps::rules::B_VALUES;
+use steps::rules::C_VALUES;
 use steps::rules::keeps_rules;
 
 // A row that is read and that nobody filled; or none.
@@ -41,13 +40,13 @@ fn missing(s: Step, filled: u16) -> Unfilled
     ensures { λ r. ⌜ unfilledAnswer r ≡ firstNot (inSet filled) (reads s) ⌝ }
 {
     let k = s.kind as usize;
-    if lacks(filled, A[k], s.a) {
+    if lacks(filled, A_VALUES[k], s.a) {
         return Unfilled::Row(s.a);
     }
-    if lacks(filled, B[k], s.b) {
+    if lacks(filled, B_VALUES[k], s.b) {
         return Unfilled::Row(s.b);
     }
-    if lacks(filled, C[k], s.c) {
+    if lacks(filled, C_VALUES[k], s.c) {
         return Unfilled::Row(s.c);
     }
     Unfilled::NoRow
@@ -56,7 +55,7 @@ fn missing(s: Step, filled: u16) -> Unfilled
 // The row that the first fault of a sheet is about, where that is a row that nobody filled: the first that its step
 // reads of those. A step's target is filled after the step.
 pub fn unfilled_row(sheet: &[u8], filled: u16) -> Unfilled
-    ensures { λ r. ⌜ unfilledAnswer r ≡ unfilledRow (terms filled) [] (stepsOf (now (sheet .entry))) ⌝ }
+    ensures { λ r. ⌜ unfilledAnswer r ≡ unfilledRow (terms filled) (stepsOf (now (sheet .entry))) ⌝ }
 {
     let n = sheet.len() / 24;
     let mut known = filled;

@@ -1,7 +1,6 @@
 -- `measure::measure` meets its contract.
 -- Assumes nothing.
 use mathlib.Core.Path.{_≡_, refl, sym, _∙_, ap}
-use mathlib.Core.List.{[]}
 use Prim.Native.Nat.{_-_, _*_, _≤_}
 use native.Mathlib.Nat.{sub-zero}
 use native.Mathlib.Omega.{arith}
@@ -9,7 +8,7 @@ use lib.ListN.{length}
 use borrow.Author.Needs.{needs}
 use Rattle.laws.specs.AnswerAt.{accepted}
 use Rattle.recipes.specs.Pairs.{pairsOf}
-use Rattle.steps.specs.Faults.{terms, Fault, firstFault, unlessFault}
+use Rattle.steps.specs.Faults.{terms, Fault, faultAfter, firstFault, unlessFault}
 use Rattle.steps.specs.Own.{faultAt}
 use Rattle.steps.specs.Steps.{stepsFrom}
 use Rattle.steps.proofs.Filling.{Known, known-start, known-after, fault-here, fault-later, fault-none, sound-keeps}
@@ -22,7 +21,7 @@ use Rattle.measure.proofs.measure.Tie as tie
 abbrev Inv-loop : tie.InvT-loop
 Inv-loop sheet n filled₀ i₀ pairs₀ filled i pairs =
     ((i ≤ n) × (pairs ≤ 20 * i))
-    × ((firstFault (terms filled₀) [] (stepsFrom sheet 0 n) ≡ firstFault (terms filled₀) (before sheet i) (stepsFrom sheet i (n - i)))
+    × ((firstFault (terms filled₀) (stepsFrom sheet 0 n) ≡ faultAfter (terms filled₀) (before sheet i) (stepsFrom sheet i (n - i)))
     × ((pairs ≡ length (pairsOf (stepsFrom sheet 0 i))) × Known (terms filled₀) (before sheet i) filled))
 
 abbrev μ-loop : tie.MeasureT-loop
@@ -61,7 +60,7 @@ loop-again c =
         loop .inv .1 .0 ∙ e,
         (
           omega (arith, count-snoc (a .sheet .now) (loop .i), p .0, loop .inv .1 .1 .0),
-          known-after t (a .sheet .now) (a .n) (loop .i) (loop .filled) (loop .inv .1 .1 .1) _ (rw s at (c .before .before .before .before .with-row .ensures (omega (arith, k)))),
+          known-after t (a .sheet .now) (a .n) (loop .i) (loop .filled) (loop .inv .1 .1 .1) _ (rw s at k) (rw s at (c .before .before .before .before .with-row .ensures)),
         ),
       ),
     )

@@ -1,7 +1,6 @@
 -- `translator::translate` meets its contract.
 -- Assumes nothing.
 use mathlib.Core.Path.{sym, _∙_, ap}
-use mathlib.Core.List.{[]}
 use native.Mathlib.Omega.{arith}
 use lib.ListN.{length}
 use borrow.Author.Needs.{needs}
@@ -46,7 +45,7 @@ put-steps-requires c κs =
     let a = b .before .before .before .before .before .args in
     let s = a .sheet .now in
     let t = terms (a .filled) in
-    let m = told-count (firstFault t [] (stepsOf s)) (length (recordsOf s)) _ (sym (ap measuredAnswer (c .before .before .before .found2 .given .1)) ∙ b .measure .ensures) in
+    let m = told-count (firstFault t (stepsOf s)) (length (recordsOf s)) _ (sym (ap measuredAnswer (c .before .before .before .found2 .given .1)) ∙ b .measure .ensures) in
     ((omega arith, omega (arith, b .before .if2 .left)), each-keeps s _ (soundExactly t (stepsOf s) .0 (m .0) .0))
 
 returns-4 : tie.Need-returns-4

@@ -1,35 +1,25 @@
 -- `unfilled::unfilled_row` meets its contract.
 -- Assumes nothing.
-use mathlib.Core.Path.{_≡_, sym, _∙_, ap}
-use mathlib.Core.List.{[]}
+use mathlib.Core.Path.{sym, _∙_, ap}
 use Prim.Native.Nat.{_-_, _/_, _≤_}
-use native.Mathlib.Nat.{sub-zero}
 use native.Mathlib.Omega.{arith}
 use lib.ListN.{length}
 use borrow.Author.Needs.{needs}
 use borrow.Author.Tests.{not-true, not-false}
 use Rattle.steps.specs.Faults.{terms}
-use Rattle.steps.specs.Steps.{stepsFrom}
-use Rattle.steps.proofs.Filling.{Known, known-start, known-after}
-use Rattle.steps.proofs.Kept.{kept-of}
-use Rattle.steps.proofs.Stepping.{before}
 use Rattle.unfilled.specs.Answers.{unfilledAnswer}
-use Rattle.unfilled.specs.Rows.{unfilledRow}
-use Rattle.unfilled.proofs.Finding.{row-broken, row-here, row-later, row-none}
+use Rattle.unfilled.proofs.Finding.{Reached, reached-start, row-broken, row-here, row-later, row-none}
 use Rattle.unfilled.proofs.unfilled_row.Statement.{statement}
 use Rattle.unfilled.proofs.unfilled_row.Tie as tie
 
 abbrev Inv-loop : tie.InvT-loop
-Inv-loop sheet filled n known₀ i₀ known i =
-    (i ≤ n)
-    × ((unfilledRow (terms filled) [] (stepsFrom sheet 0 n) ≡ unfilledRow (terms filled) (before sheet i) (stepsFrom sheet i (n - i)))
-    × Known (terms filled) (before sheet i) known)
+Inv-loop sheet filled n known₀ i₀ known i = (i ≤ n) × Reached (terms filled) sheet n i known
 
 abbrev μ-loop : tie.MeasureT-loop
 μ-loop sheet filled n known₀ i₀ known i = n - i
 
 loop-holds : tie.Need-loop-holds Inv-loop μ-loop
-loop-holds c = (omega arith, (rw sub-zero, known-start (terms (c .before .args .filled))))
+loop-holds c = let a = c .before .args in (omega arith, reached-start (terms (a .filled)) (a .sheet .now) (length (a .sheet .now) / 24))
 
 returns : tie.Need-returns Inv-loop μ-loop
 returns c =
@@ -37,7 +27,7 @@ returns c =
     let a = b .before .before .before .args in
     let loop = b .before .loop in
     let k = rw (c .before .before .step-at .ensures) at (sym (c .before .keeps-rules .ensures)) ∙ not-true _ (c .if1 .taken) in
-    sym (loop .inv .1 .0 ∙ row-broken (terms (a .filled)) (a .sheet .now) (length (a .sheet .now) / 24) (loop .i) (loop .known) (loop .inv .1 .1) (b .loop-test .taken) k)
+    sym (row-broken (terms (a .filled)) (a .sheet .now) (length (a .sheet .now) / 24) (loop .i) (loop .known) (loop .inv .1) (b .loop-test .taken) k)
 
 missing-requires : tie.Need-missing-requires Inv-loop μ-loop
 missing-requires c κs = sym (c .before .before .keeps-rules .ensures) ∙ not-false _ (c .before .if1 .left)
@@ -50,29 +40,26 @@ returns-2 c =
     let s = c .before .before .before .before .before .before .before .step-at .ensures in
     let k = sym (c .before .before .before .before .before .before .keeps-rules .ensures) ∙ not-false _ (c .before .before .before .before .before .if1 .left) in
     let f = sym (c .before .before .before .missing .ensures) ∙ ap unfilledAnswer (c .before .found .given .1) in
-    sym (loop .inv .1 .0 ∙ row-here (terms (a .filled)) (a .sheet .now) (length (a .sheet .now) / 24) (loop .i) (loop .known) (loop .inv .1 .1) (b .loop-test .taken) (rw s at k) _ (rw s at f))
+    sym (row-here (terms (a .filled)) (a .sheet .now) (length (a .sheet .now) / 24) (loop .i) (loop .known) (loop .inv .1) (b .loop-test .taken) (rw s at k) _ (rw s at f))
 
 loop-again : tie.Need-loop-again Inv-loop μ-loop
 loop-again c =
     let b = c .before .before .before .before .before .before .before in
     let a = b .before .before .before .args in
-    let t = terms (a .filled) in
-    let n = length (a .sheet .now) / 24 in
     let loop = b .before .loop in
     let s = c .before .before .before .before .before .before .step-at .ensures in
     let k = sym (c .before .before .before .before .before .keeps-rules .ensures) ∙ not-false _ (c .before .before .before .before .if1 .left) in
     let f = sym (c .before .before .missing .ensures) ∙ ap unfilledAnswer (c .enum-told .given .1) in
-    let e = row-later t (a .sheet .now) n (loop .i) (loop .known) (loop .inv .1 .1) (b .loop-test .taken) (rw s at k) (rw s at f) in
-    let w = c .before .before .before .with-row .ensures (omega (arith, kept-of _ k .target)) in (
+    let w = c .before .before .before .with-row .ensures in (
       omega arith,
-      (loop .inv .1 .0 ∙ e, known-after t (a .sheet .now) n (loop .i) (loop .known) (loop .inv .1 .1) _ (rw s at w)),
+      row-later (terms (a .filled)) (a .sheet .now) (length (a .sheet .now) / 24) (loop .i) (loop .known) (loop .inv .1) (b .loop-test .taken) (rw s at k) (rw s at f) _ (rw s at w),
     )
 
 returns-3 : tie.Need-returns-3 Inv-loop μ-loop
 returns-3 c =
     let a = c .before .before .before .args in
     let loop = c .before .loop in
-    sym (loop .inv .1 .0 ∙ row-none (terms (a .filled)) (a .sheet .now) (length (a .sheet .now) / 24) (loop .i) (loop .known) (loop .inv .1 .1) (c .loop-test .left))
+    sym (row-none (terms (a .filled)) (a .sheet .now) (length (a .sheet .now) / 24) (loop .i) (loop .known) (loop .inv .1) (c .loop-test .left))
 
 pub unfilled-row-spec : {M : Type 1} → statement M
 unfilled-row-spec =

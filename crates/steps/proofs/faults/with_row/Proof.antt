@@ -2,7 +2,6 @@
 -- Assumes nothing.
 use mathlib.Core.Path.{_≡_, ap}
 use Prim.Native.Nat.{_*_, _%_, _^_}
-use native.Mathlib.Nat.{mod-eq-of-lt}
 use native.Mathlib.Omega.{arith}
 use lib.Bits.{bitOr}
 use lib.Pow.{pow-mono}
@@ -12,10 +11,9 @@ use Rattle.steps.proofs.faults.with_row.Tie as tie
 
 returns : tie.Need-returns
 returns c =
-    λ h. let r = c .args .r in
-    let e : r % 16 ≡ r = mod-eq-of-lt h in
+    let r = c .args .r % 16 in
     let p : 1 * 2 ^ r % 2 ^ 16 ≡ 2 ^ r = omega (arith, pow-mono {i = r} {j = 15} (omega arith)) in
-    rw e (ap (bitOr (c .args .set)) p)
+    ap (bitOr (c .args .set)) p
 
 pub with-row-spec : {M : Type 1} → statement M
 with-row-spec = tie.close

@@ -1,4 +1,4 @@
--- `loading::file_of` meets its contract.
+-- `loader::file_of` meets its contract.
 -- Assumes nothing.
 use mathlib.Core.Path.{_≡_}
 use Prim.Native.Nat.{ℕ, _≤_, _<_, _-_, _*_}
@@ -7,8 +7,8 @@ use lib.ListN.{length, getD}
 use borrow.Author.Needs.{needs}
 use Rattle.little_endian.specs.Word.{wordAt}
 use Rattle.laws.proofs.Filled.{one-more}
-use Rattle.loading.proofs.file_of.Statement.{statement}
-use Rattle.loading.proofs.file_of.Tie as tie
+use Rattle.loader.proofs.file_of.Statement.{statement}
+use Rattle.loader.proofs.file_of.Tie as tie
 
 abbrev Inv-loop : tie.InvT-loop
 Inv-loop start file₀ k₀ file k = ((length file ≡ 32) × (k ≤ 32)) × ((j : ℕ) → j < k → getD file j 0 ≡ wordAt start (8 * j))
