@@ -61,9 +61,9 @@ uint32_t bodlixo_translate(const uint8_t *sheet, size_t len, uint16_t filled, ui
                            uint64_t *at);
 
 /* Translates a sum sheet into `out`, and runs its pairs on `file` from the first. A sheet that is refused leaves `out`
-   and `file` untouched, with `*executed` 0. `filled` and `*at` are as in bodlixo_translate, `*executed` as in bodlixo_run. Row r
-   of the sheet is file[2 * r], low, and file[2 * r + 1]. No pair of a sheet moves a lane to an end: `*mark` comes out as
-   it came in, as 0 or 1, whatever the answer. */
+   and `file` untouched, with `*executed` 0. `filled` and `*at` are as in bodlixo_translate, `*executed` as in
+   bodlixo_run. Row r of the sheet is file[2 * r], low, and file[2 * r + 1]. No pair of a sheet moves a lane to an end:
+   `*mark` comes out as it came in, as 0 or 1, whatever the answer. */
 uint32_t bodlixo_evaluate(const uint8_t *sheet, size_t len, uint16_t filled, uint16_t *out, size_t out_len,
                           uint64_t *file, size_t file_len, uint64_t budget, uint8_t *mark, uint64_t *executed,
                           uint64_t *at);

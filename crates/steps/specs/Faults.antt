@@ -37,7 +37,7 @@ abbrev pub FilledAfter : Terms → List Step → List Step → Type 0
 FilledAfter t earlier [] = Unit {0}
 FilledAfter t earlier (s ∷ steps) = (every (isFilled t earlier) (reads s) ≡ true) × FilledAfter t (s ∷ earlier) steps
 
--- of a whole sheet
+-- every step of a whole sheet does
 abbrev pub AllFilled : Terms → List Step → Type 0
 AllFilled t steps = FilledAfter t [] steps
 
@@ -63,7 +63,7 @@ unfoldable pub faultAfter : Terms → List Step → List Step → Fault
 faultAfter t earlier [] = sound
 faultAfter t earlier (s ∷ steps) = let later = faultAfter t (s ∷ earlier) steps in firstOf (stepFault (isFilled t earlier) (length earlier) s) later
 
--- of a whole sheet
+-- the first fault of a whole sheet
 abbrev pub firstFault : Terms → List Step → Fault
 firstFault t steps = faultAfter t [] steps
 

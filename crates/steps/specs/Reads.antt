@@ -11,9 +11,10 @@ usedRow unused r rs = rs
 usedRow (upTo n) r rs = r ∷ rs
 usedRow (below n) r rs = r ∷ rs
 
--- the rows that a step reads
+-- the rows that a step reads, by its kind
 unfoldable pub readsBy : ℕ → Step → List ℕ
 readsBy kind s = usedRow (usesOf kind .a) (s .a) (usedRow (usesOf kind .b) (s .b) (usedRow (usesOf kind .c) (s .c) []))
 
+-- the rows that a step reads
 abbrev pub reads : Step → List ℕ
 reads s = readsBy (s .kind) s

@@ -27,6 +27,7 @@ translationBy first bytes room =
     (choose (ltb room (2 * length (recordsOf bytes))) (refused 14)
     (accepted (length (recordsOf bytes))))
 
+-- what is answered with these terms
 abbrev pub translationOf : Terms → List ℕ → ℕ → AnswerAt ℕ
 translationOf t bytes room = translationBy (firstFault t (stepsOf bytes)) bytes room
 
@@ -36,6 +37,7 @@ writtenBy (accepted n) code out = code ++ drop (length code) out
 writtenBy (refused r) code out = out
 writtenBy (refusedAt r i) code out = out
 
+-- what is left in the output
 abbrev pub writtenOf : Terms → List ℕ → List ℕ → List ℕ
 writtenOf t bytes out = writtenBy (translationOf t bytes (length out)) (halfwordsOf (recordsOf bytes)) out
 
