@@ -43,6 +43,7 @@ fn file_of(start: &[u8; 257]) -> [u64; 32]
     file
 }
 
+// Evaluates a sheet on a start file, with a list of filled rows, and writes what comes of it.
 fn evaluate(sheet: &[u8], start: &[u8; 257], filled: u16) {
     let mut file = file_of(start);
     let mut out = [0u16; 10240];

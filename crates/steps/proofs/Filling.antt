@@ -15,12 +15,11 @@ use Rattle.laws.proofs.Tests.{both-true, same-tests}
 use Rattle.steps.specs.declared.Step.{Step}
 use Rattle.steps.specs.declared.Terms.{Terms}
 use Rattle.steps.specs.Faults.{setBy, isFilled, every, Fault, sound, fault, stepFault, faultAfter}
-use Rattle.steps.specs.Reads.{readsBy, reads}
-use Rattle.steps.specs.Rules.{table, usesOf, keeps}
+use Rattle.steps.specs.Reads.{usedRow, readsBy, reads}
+use Rattle.steps.specs.Rules.{Use, unused, upTo, below, usesOf, keeps}
 use Rattle.steps.specs.Sets.{inSet}
 use Rattle.steps.specs.Steps.{stepAt, stepsFrom}
-use Rattle.steps.proofs.Each.{each}
-use Rattle.steps.proofs.Kept.{Kept, kept-of, kind-small}
+use Rattle.steps.proofs.Kept.{a-small, b-small, c-small}
 use Rattle.steps.proofs.Sets.{marked-or, marked-alone}
 use Rattle.steps.proofs.Stepping.{before, before-length}
 
@@ -29,56 +28,17 @@ abbrev pub Below : List ℕ → Type 0
 Below [] = Unit {0}
 Below (r ∷ rs) = (r < 14) × Below rs
 
-abbrev ReadBelow : Step → ℕ → Type 0
-ReadBelow s k = Kept (usesOf k) s → Below (readsBy k s)
+used-below : (u : Use) (r : ℕ) (rs : List ℕ) → r < 14 → Below rs → Below (usedRow u r rs)
+used-below unused r rs h b = b
+used-below (upTo n) r rs h b = (h, b)
+used-below (below n) r rs h b = (h, b)
 
-module _ (s : Step) where
-  two : s .a < 14 → s .b < 14 → Below (s .a ∷ s .b ∷ [])
-  two a b = (a, (b, tt))
-
-  by-kind : (k : ℕ) → k < 15 → ReadBelow s k
-  unfolding readsBy table
-  by-kind =
-      each (ReadBelow s) 15 (
-        (λ p. tt),
-        (
-          (λ p. (p .a, tt)),
-          (
-            (λ p. two (p .a) (p .b)),
-            (
-              (λ p. two (p .a) (p .b)),
-              (
-                (λ p. two (p .a) (p .b)),
-                (
-                  (λ p. two (p .a) (p .b)),
-                  (
-                    (λ p. two (p .a) (p .b)),
-                    (
-                      (λ p. two (p .a) (p .b)),
-                      (
-                        (λ p. (p .a, tt)),
-                        (
-                          (λ p. (p .a, tt)),
-                          (
-                            (λ p. (p .a, tt)),
-                            (
-                              (λ p. two (p .a) (p .b)),
-                              ((λ p. two (p .a) (p .b)), ((λ p. two (p .a) (p .b)), ((λ p. (p .a, (p .b, (p .c, tt)))), tt))),
-                            ),
-                          ),
-                        ),
-                      ),
-                    ),
-                  ),
-                ),
-              ),
-            ),
-          ),
-        ),
-      )
-
-  pub reads-below : keeps s ≡ true → Below (reads s)
-  reads-below e = by-kind (s .kind) (kind-small s e) (kept-of s e)
+pub reads-below : (s : Step) → keeps s ≡ true → Below (reads s)
+unfolding readsBy
+reads-below s e =
+    let u = usesOf (s .kind) in
+    let c = usedRow (u .c) (s .c) [] in
+    used-below (u .a) (s .a) (usedRow (u .b) (s .b) c) (a-small s e) (used-below (u .b) (s .b) c (b-small s e) (used-below (u .c) (s .c) [] (c-small s e) tt))
 
 -- a test that holds of every row holds too where it follows from one that does
 both-hold : (p q : Bool) → p ≡ true → q ≡ true → p && q ≡ true
@@ -159,10 +119,11 @@ module _ (t : Terms) (s : List ℕ) (n i set : ℕ) (known : Known t (before s i
       let m : stepAt s (24 * i) .target % 16 ≡ stepAt s (24 * i) .target = mod-eq-of-lt (omega arith) in
       rw (e, m, add-one i) (known-next t (before s i) set (stepAt s (24 * i)) known)
 
--- a step with no fault keeps the rules
+-- a fault is not none
 pub not-sound : {P : Type 0} (n i : ℕ) → fault n i ≡ sound → P
 not-sound n i e = never (cc)
 
+-- a step with no fault keeps the rules
 pub sound-keeps : (p : ℕ → Bool) (i : ℕ) (s : Step) → stepFault p i s ≡ sound → keeps s ≡ true
 sound-keeps p i s h = go (keeps s) refl
   where

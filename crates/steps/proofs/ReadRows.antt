@@ -1,7 +1,7 @@
 -- The test of the rows that a step reads, by the code's columns.
 -- Assumes nothing.
-use mathlib.Core.Path.{_≡_, refl, ap}
-use mathlib.Core.Bool.{Bool, true, false, _&&_, _||_}
+use mathlib.Core.Path.{_≡_, refl, sym, ap}
+use mathlib.Core.Bool.{Bool, _&&_, _||_, and-true}
 use Prim.Native.Nat.{ℕ, _<_}
 use lib.Dec.{ltb}
 use lib.ListN.{getD}
@@ -13,10 +13,6 @@ use Rattle.steps.specs.Sets.{inSet}
 use Rattle.steps.proofs.Columns.{a-limits, b-limits, c-limits}
 use Rattle.steps.proofs.Each.{each}
 
-and-true : (p : Bool) → p ≡ p && true
-and-true true = refl
-and-true false = refl
-
 module _ (s : Step) (set : ℕ) where
   abbrev Tested : ℕ → Type 0
   Tested k =
@@ -25,7 +21,7 @@ module _ (s : Step) (set : ℕ) where
 
   three : Tested 14
   unfolding readsBy table
-  three = ap (λ (x : Bool). inSet set (s .a) && (inSet set (s .b) && x)) (and-true (inSet set (s .c)))
+  three = ap (λ (x : Bool). inSet set (s .a) && (inSet set (s .b) && x)) (sym (and-true (inSet set (s .c))))
 
   -- a byte with one value is not used
   reads-tested : (k : ℕ) → k < 15 → Tested k
