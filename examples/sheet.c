@@ -7,8 +7,7 @@ int main(void) {
     uint16_t out[4];
     uint8_t mark = 0;
     uint64_t file[32] = {40, 0, 2, 0}, executed, at; /* row 0 is 40, row 1 is 2 */
-    uint16_t filled = 1 << 0 | 1 << 1, may_read = filled | 1 << 2, may_set = 1 << 2; /* sets of rows, row r at bit r */
-    uint32_t answer = bodlixo_evaluate(sheet, sizeof sheet, filled, may_read, may_set, out, 4, file, 32, 100, &mark,
-                                       &executed, &at);
+    uint16_t filled = 1 << 0 | 1 << 1; /* rows 0 and 1 */
+    uint32_t answer = bodlixo_evaluate(sheet, sizeof sheet, filled, out, 4, file, 32, 100, &mark, &executed, &at);
     printf("answer %u pairs %u executed %u row 2 %u\n", answer, (unsigned)at, (unsigned)executed, (unsigned)file[4]);
 }

@@ -22,8 +22,7 @@
     sheets      12  a length that is no multiple of 24, or above 6144
                 13  a step breaks the rules
                 16  a step reads a row that is neither in the list of filled rows nor a target of an earlier step
-                20  a step reads a row that the sheet may not read, or its target is one that the sheet may not set
-                    (steps are tested in order, each for 13, 16 and 20; the first fault found is the answer)
+                    (steps are tested in order, each for 13 and then 16; the first fault found is the answer)
     all outputs 14  the output is too short
 
    A record is ten words: mnemonic, mark (1 or 2), address, count, then kind and value of each of three places.
@@ -55,23 +54,19 @@ uint32_t bodlixo_write(uint32_t edition, const uint64_t record[10], uint16_t pai
 uint32_t bodlixo_run(const uint16_t *code, size_t len, uint64_t start, uint64_t *file, size_t file_len, uint64_t budget,
                      uint8_t *mark, uint64_t *executed);
 
-/* Translates a sum sheet of `len` bytes into `out`. Three sets of rows come with it, row r at bit r: `filled` those that
-   were filled beforehand, `may_read` those that its steps may read, and `may_set` those that they may set. A row that a
-   step set earlier needs leave to be read like any other. 0x3fff is all rows, and bits 14 and 15 are ignored. `*at` is the
-   pair count; or, after a refusal, which leaves `out` untouched, the index of the step where the refusal has one, else 0.
-   10240 halfwords are always enough. */
-uint32_t bodlixo_translate(const uint8_t *sheet, size_t len, uint16_t filled, uint16_t may_read, uint16_t may_set,
-                           uint16_t *out, size_t out_len, uint64_t *at);
+/* Translates a sum sheet of `len` bytes into `out`. `filled` is the list of the rows that were filled beforehand, row r at
+   bit r: 0x3fff is all of them, and bits 14 and 15 are ignored. `*at` is the pair count; or, after a refusal, which leaves
+   `out` untouched, the index of the step where the refusal has one, else 0. 10240 halfwords are always enough. */
+uint32_t bodlixo_translate(const uint8_t *sheet, size_t len, uint16_t filled, uint16_t *out, size_t out_len,
+                           uint64_t *at);
 
 /* Translates a sum sheet into `out`, and runs its pairs on `file` from the first. A sheet that is refused leaves `out`
-   and `file` untouched, with `*executed` 0. The three sets and `*at` are as in bodlixo_translate, `*executed` as in
-   bodlixo_run. Row r of the sheet is file[2 * r], low, and file[2 * r + 1]. Whatever the answer, a row that may not be set
-   is as it was, and answer and `*executed` do not depend on what the file holds; two files that agree on the rows that may
-   be read end, when done, with the same in every row that a step sets. No pair of a sheet moves a lane to an end: `*mark`
-   comes out as it came in, as 0 or 1, whatever the answer. */
-uint32_t bodlixo_evaluate(const uint8_t *sheet, size_t len, uint16_t filled, uint16_t may_read, uint16_t may_set,
-                          uint16_t *out, size_t out_len, uint64_t *file, size_t file_len, uint64_t budget,
-                          uint8_t *mark, uint64_t *executed, uint64_t *at);
+   and `file` untouched, with `*executed` 0. `filled` and `*at` are as in bodlixo_translate, `*executed` as in
+   bodlixo_run. Row r of the sheet is file[2 * r], low, and file[2 * r + 1]. No pair of a sheet moves a lane to an end:
+   `*mark` comes out as it came in, as 0 or 1, whatever the answer. */
+uint32_t bodlixo_evaluate(const uint8_t *sheet, size_t len, uint16_t filled, uint16_t *out, size_t out_len,
+                          uint64_t *file, size_t file_len, uint64_t budget, uint8_t *mark, uint64_t *executed,
+                          uint64_t *at);
 
 /* Lists the pairs of `len` bytes in `out`, with the totals as the last line, and puts the listing's size in bytes in
    *size. An out that is shorter than the listing is left untouched, and the answer is 14 with *size 0; 901190 bytes are

@@ -1,15 +1,15 @@
 //! What a translation and a run answer, with their refusals: the rules of model.rs and the pairs of pairs.rs together.
 
-use crate::model::{named_by, Terms, EVERY_ROW};
+use crate::model::{filled_by, EVERY_ROW};
 use crate::pairs::{self, Pair};
 use crate::step::{steps_of, Step, STEP};
 
 pub const LONGEST: usize = 6144;
 
-/// The first fault of steps and its index, on their terms: each step is tested for 13, then for 16, then for 20.
-fn fault(steps: &[Step], terms: Terms) -> Option<(u32, u64)> {
-    let mut filled = named_by(terms.filled);
-    let (may_read, may_set) = (named_by(terms.may_read), named_by(terms.may_set));
+/// The first fault of steps and its index, with a list of the rows filled beforehand: each step is tested for 13 and
+/// then for 16.
+fn fault(steps: &[Step], filled: u16) -> Option<(u32, u64)> {
+    let mut filled = filled_by(filled);
     for (step, index) in steps.iter().zip(0..) {
         if !step.keeps() {
             return Some((13, index));
@@ -17,21 +17,18 @@ fn fault(steps: &[Step], terms: Terms) -> Option<(u32, u64)> {
         if step.missing(&filled).next().is_some() {
             return Some((16, index));
         }
-        if step.missing(&may_read).next().is_some() || step.sets_outside(&may_set) {
-            return Some((20, index));
-        }
         step.fill(&mut filled);
     }
     None
 }
 
 /// What a translation into so many halfwords gives: the pairs, or the refusal and its index.
-pub fn translation(sheet: &[u8], terms: Terms, room: usize) -> Result<Vec<Pair>, (u32, u64)> {
+pub fn translation(sheet: &[u8], filled: u16, room: usize) -> Result<Vec<Pair>, (u32, u64)> {
     if sheet.len() % STEP != 0 || sheet.len() > LONGEST {
         return Err((12, 0));
     }
     let steps = steps_of(sheet);
-    if let Some(fault) = fault(&steps, terms) {
+    if let Some(fault) = fault(&steps, filled) {
         return Err(fault);
     }
     let pairs: Vec<_> = steps.iter().flat_map(pairs::of_step).collect();
@@ -41,9 +38,9 @@ pub fn translation(sheet: &[u8], terms: Terms, room: usize) -> Result<Vec<Pair>,
     Ok(pairs)
 }
 
-/// How many pairs a sheet is once every row is filled and allowed, where it then has no fault.
+/// How many pairs a sheet is once every row is filled, where it then has no fault.
 pub fn count(sheet: &[u8]) -> Option<usize> {
-    translation(sheet, Terms::every(EVERY_ROW), usize::MAX).ok().map(|pairs| pairs.len())
+    translation(sheet, EVERY_ROW, usize::MAX).ok().map(|pairs| pairs.len())
 }
 
 /// What a run of readable pairs answers: the number, the pairs executed and the file left.
@@ -65,8 +62,8 @@ pub fn mark(given: u8) -> u8 {
 }
 
 /// What both in one call answer: the number, the pair count or the index, the pairs executed and the file left.
-pub fn evaluation(sheet: &[u8], terms: Terms, room: usize, file: &[u64], budget: u64) -> (u32, u64, u64, Vec<u64>) {
-    match (translation(sheet, terms, room), <&[u64; 32]>::try_from(file)) {
+pub fn evaluation(sheet: &[u8], filled: u16, room: usize, file: &[u64], budget: u64) -> (u32, u64, u64, Vec<u64>) {
+    match (translation(sheet, filled, room), <&[u64; 32]>::try_from(file)) {
         (Err((answer, index)), _) => (answer, index, 0, file.to_vec()),
         (Ok(pairs), Err(_)) => (11, pairs.len() as u64, 0, file.to_vec()),
         (Ok(pairs), Ok(file)) => {

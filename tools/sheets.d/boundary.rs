@@ -1,19 +1,9 @@
 //! Our side: the static library's C functions for sheets, as include/bodlixo.h has them.
 
-use crate::model::Terms;
-
 #[link(name = "capi", kind = "static")]
 extern "C" {
-    fn bodlixo_translate(
-        sheet: *const u8,
-        len: usize,
-        filled: u16,
-        may_read: u16,
-        may_set: u16,
-        out: *mut u16,
-        out_len: usize,
-        at: *mut u64,
-    ) -> u32;
+    fn bodlixo_translate(sheet: *const u8, len: usize, filled: u16, out: *mut u16, out_len: usize, at: *mut u64)
+        -> u32;
     fn bodlixo_run(
         code: *const u16,
         len: usize,
@@ -28,8 +18,6 @@ extern "C" {
         sheet: *const u8,
         len: usize,
         filled: u16,
-        may_read: u16,
-        may_set: u16,
         out: *mut u16,
         out_len: usize,
         file: *mut u64,
@@ -45,15 +33,11 @@ extern "C" {
 const UNSET: u64 = 0x5555_5555_5555_5555;
 
 /// The answer's number, and the pair count or the index.
-pub fn translate(sheet: &[u8], terms: Terms, out: &mut [u16]) -> (u32, u64) {
+pub fn translate(sheet: &[u8], filled: u16, out: &mut [u16]) -> (u32, u64) {
     let mut at = UNSET;
     let (bytes, halfwords) = (sheet.len(), out.len());
-    let Terms { filled, may_read, may_set } = terms;
-    let answer = unsafe {
-        let (sheet, out) = (sheet.as_ptr(), out.as_mut_ptr());
-        bodlixo_translate(sheet, bytes, filled, may_read, may_set, out, halfwords, &mut at)
-    };
-    (answer, at)
+    let code = unsafe { bodlixo_translate(sheet.as_ptr(), bytes, filled, out.as_mut_ptr(), halfwords, &mut at) };
+    (code, at)
 }
 
 /// The answer's number, the pairs executed, and the mark that comes back.
@@ -70,30 +54,17 @@ pub fn run(code: &[u16], start: u64, file: &mut [u64], budget: u64, mut mark: u8
 /// The answer's number, the pair count or the index, the pairs executed, and the mark that comes back.
 pub fn evaluate(
     sheet: &[u8],
-    terms: Terms,
+    filled: u16,
     out: &mut [u16],
     file: &mut [u64],
     budget: u64,
     mut mark: u8,
 ) -> (u32, u64, u64, u8) {
     let (mut at, mut executed) = (UNSET, UNSET);
-    let Terms { filled, may_read, may_set } = terms;
+    let (bytes, halfwords, words) = (sheet.len(), out.len(), file.len());
     let answer = unsafe {
-        bodlixo_evaluate(
-            sheet.as_ptr(),
-            sheet.len(),
-            filled,
-            may_read,
-            may_set,
-            out.as_mut_ptr(),
-            out.len(),
-            file.as_mut_ptr(),
-            file.len(),
-            budget,
-            &mut mark,
-            &mut executed,
-            &mut at,
-        )
+        let (sheet, out, file) = (sheet.as_ptr(), out.as_mut_ptr(), file.as_mut_ptr());
+        bodlixo_evaluate(sheet, bytes, filled, out, halfwords, file, words, budget, &mut mark, &mut executed, &mut at)
     };
     (answer, at, executed, mark)
 }

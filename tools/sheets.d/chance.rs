@@ -1,4 +1,4 @@
-//! Random steps, sheets, lists of rows and files; every run has the same ones.
+//! Random steps, sheets, lists of filled rows and files; every run has the same ones.
 
 use crate::model::{uses, EVERY_MARK, EVERY_ROW};
 use crate::pairs::expanded;
@@ -33,7 +33,7 @@ impl Chance {
         self.one(&[0, 0, 0, 1, 1, 2, 128, 255])
     }
 
-    /// A list of rows for a sheet that needs these: its sort, by the arms below, and the list.
+    /// A list of filled rows for a sheet that needs these: its sort, by the arms below, and the list.
     pub fn list(&mut self, needed: u16) -> (usize, u16) {
         let sort = self.one(&[0, 0, 1, 1, 2, 3, 3, 3, 4, 4, 5, 5, 6, 7, 8, 9]);
         let rows: Vec<u16> = (0..14).map(|r| 1 << r).filter(|row| needed & row != 0).collect();

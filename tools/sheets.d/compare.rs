@@ -4,7 +4,7 @@ use crate::answers::{self, LONGEST};
 use crate::boundary;
 use crate::chance::{sheet_of, Chance};
 use crate::counts::Counts;
-use crate::model::{self, uses, Terms, EVERY_MARK, EVERY_ROW};
+use crate::model::{self, uses, EVERY_MARK, EVERY_ROW};
 use crate::pairs::{code_of, of_half, Pair};
 use crate::report::Report;
 use crate::step::{steps_of, Step, STEP};
@@ -47,25 +47,21 @@ pub struct Translation {
 }
 
 pub fn compare(count: usize) -> ExitCode {
-    let (mut all, mut ranked) = (Compared::default(), Compared::default());
+    let mut all = Compared::default();
     let mut chance = Chance(1);
     for _ in 0..count {
-        let sheet = all.sheet(&mut chance);
-        ranked.ranked(&sheet);
+        all.sheet(&mut chance);
     }
     println!("sheets {count}");
     all.counts.print();
-    println!("each with sets of the rows that it may read and set");
-    ranked.counts.print();
-    all.report.disagreements += ranked.report.disagreements;
     println!("{} disagreements", all.report.disagreements);
     all.report.status()
 }
 
 impl Compared {
     /// One sheet: valid, with bytes damaged, or of any bytes; some then of a wrong length. It is compared with every
-    /// row filled, then with a list of its own, both with every row allowed.
-    fn sheet(&mut self, chance: &mut Chance) -> Vec<u8> {
+    /// row filled, then with a list of its own.
+    fn sheet(&mut self, chance: &mut Chance) {
         let count = chance.count();
         let steps = chance.steps(count);
         let mut sheet = sheet_of(&steps);
@@ -85,18 +81,17 @@ impl Compared {
             wrong_length(chance, &mut sheet);
         }
         self.sheets += 1;
-        let every = Terms::thrice(if self.sheets % 2 == 0 { EVERY_ROW } else { EVERY_MARK });
+        let every = if self.sheets % 2 == 0 { EVERY_ROW } else { EVERY_MARK };
         self.translated(chance, &sheet, every);
         let answer = self.evaluated(&mut Chance(self.sheets << 32), &sheet, every);
         self.counts.add("evaluation answers", answer.into());
         self.listed(&sheet, needed);
-        sheet
     }
 
     /// One byte replaced.
     fn damaged(&mut self, chance: &mut Chance, steps: &[Step], sheet: &mut [u8]) {
         let (at, byte) = chance.damage(sheet);
-        if let Err((13, _)) = answers::translation(sheet, Terms::every(EVERY_ROW), usize::MAX) {
+        if let Err((13, _)) = answers::translation(sheet, EVERY_ROW, usize::MAX) {
             self.counts.add("refused for the byte", byte as u64);
             self.counts.saw("kinds and bytes refused", &[steps[at].kind, byte as u8]);
             self.counts.saw("kinds, bytes and values refused", &[steps[at].kind, byte as u8, sheet[STEP * at + byte]]);
@@ -104,10 +99,10 @@ impl Compared {
     }
 
     /// A sheet translated into an output of some length; then its runs.
-    fn translated(&mut self, chance: &mut Chance, sheet: &[u8], terms: Terms) {
+    fn translated(&mut self, chance: &mut Chance, sheet: &[u8], filled: u16) {
         let need = need(chance, sheet);
         let room = room(chance, need);
-        let Translation { out, due, .. } = self.translation(chance, sheet, terms, room);
+        let Translation { out, due, .. } = self.translation(chance, sheet, filled, room);
         self.counts.add("translation answers", number(&due));
         if let Err((14, _)) = due {
             self.counts.add("halfwords missing at 14 (9: more)", (need - room).min(9) as u64);
@@ -120,10 +115,10 @@ impl Compared {
     }
 
     /// One translation into so many halfwords compared.
-    pub fn translation(&mut self, chance: &mut Chance, sheet: &[u8], terms: Terms, room: usize) -> Translation {
+    pub fn translation(&mut self, chance: &mut Chance, sheet: &[u8], filled: u16, room: usize) -> Translation {
         let mut out: Vec<u16> = (0..room + BEYOND).map(|_| chance.word() as u16).collect();
         let mut due_out = out.clone();
-        let due = answers::translation(sheet, terms, room);
+        let due = answers::translation(sheet, filled, room);
         let answer = match &due {
             Ok(pairs) => (0, pairs.len() as u64),
             Err(refusal) => *refusal,
@@ -131,19 +126,19 @@ impl Compared {
         if let Ok(pairs) = &due {
             due_out[..2 * pairs.len()].copy_from_slice(&code_of(pairs));
         }
-        let ours = boundary::translate(sheet, terms, &mut out[..room]);
-        self.report.expect(ours, answer, || format!("translation of {sheet:x?} with {terms} into {room}"));
-        self.report.expect(&out, &due_out, || format!("output of {sheet:x?} with {terms} in {room}"));
+        let ours = boundary::translate(sheet, filled, &mut out[..room]);
+        self.report.expect(ours, answer, || format!("translation of {sheet:x?} with {filled:04x} into {room}"));
+        self.report.expect(&out, &due_out, || format!("output of {sheet:x?} with {filled:04x} in {room}"));
         Translation { ours, out, due }
     }
 
     /// The sheet translated and run by one call; the number due. Its chances are its own and change no other case.
-    pub fn evaluated(&mut self, chance: &mut Chance, sheet: &[u8], terms: Terms) -> u32 {
+    pub fn evaluated(&mut self, chance: &mut Chance, sheet: &[u8], filled: u16) -> u32 {
         let n = answers::count(sheet).unwrap_or(0);
         let room = room(chance, 2 * n);
         let budget = chance.one(&[n, n, n, n + 1, n / 2, n.saturating_sub(1), 0, usize::MAX]) as u64;
         let words = chance.one(&[32, 32, 32, 32, 32, 32, 32, 31, 33, 0]);
-        self.evaluation(chance, sheet, terms, room, budget, words)
+        self.evaluation(chance, sheet, filled, room, budget, words)
     }
 
     /// One evaluation into so many halfwords, on a file of so many words, compared; the number due.
@@ -151,7 +146,7 @@ impl Compared {
         &mut self,
         chance: &mut Chance,
         sheet: &[u8],
-        terms: Terms,
+        filled: u16,
         room: usize,
         budget: u64,
         words: usize,
@@ -160,14 +155,14 @@ impl Compared {
         let mut left = file.clone();
         let mut out: Vec<u16> = (0..room + BEYOND).map(|_| chance.word() as u16).collect();
         let mut due_out = out.clone();
-        if let Ok(pairs) = answers::translation(sheet, terms, room) {
+        if let Ok(pairs) = answers::translation(sheet, filled, room) {
             due_out[..2 * pairs.len()].copy_from_slice(&code_of(&pairs));
         }
         let mark = self.mark();
-        let due = answers::evaluation(sheet, terms, room, &file, budget);
-        let ours = boundary::evaluate(sheet, terms, &mut out[..room], &mut left, budget, mark);
+        let due = answers::evaluation(sheet, filled, room, &file, budget);
+        let ours = boundary::evaluate(sheet, filled, &mut out[..room], &mut left, budget, mark);
         let (answer, at, executed, marked) = ours;
-        let call = || format!("evaluation of {sheet:x?} with {terms} into {room}");
+        let call = || format!("evaluation of {sheet:x?} with {filled:04x} into {room}");
         let case = || format!("{} with {budget} on {file:x?}, mark {mark}", call());
         let due_mark = answers::mark(mark);
         self.report.expect((answer, at, executed, &left, marked), (due.0, due.1, due.2, &due.3, due_mark), case);
@@ -328,7 +323,7 @@ pub fn number(due: &Result<Vec<Pair>, (u32, u64)>) -> u64 {
     due.as_ref().err().map_or(0, |(answer, _)| u64::from(*answer))
 }
 
-/// The halfwords that a sheet needs once every row is filled and allowed; any few for one with another fault.
+/// The halfwords that a sheet needs once every row is filled; any few for one with another fault.
 pub fn need(chance: &mut Chance, sheet: &[u8]) -> usize {
     answers::count(sheet).map_or_else(|| chance.below(64), |pairs| 2 * pairs)
 }

@@ -3,7 +3,7 @@
 use crate::boundary;
 use crate::chance::{sheet_of, Chance};
 use crate::halves;
-use crate::model::{self, Terms};
+use crate::model;
 use crate::report::Report;
 use crate::step::Step;
 use std::io::Write;
@@ -17,11 +17,10 @@ struct Program {
     mark: u8,
 }
 
-/// The steps translated by ours, with just the rows filled and allowed that they need; each third program has the mark
-/// yes.
+/// The steps translated by ours, with just the rows filled that they need; each third program has the mark yes.
 fn program(chance: &mut Chance, index: usize, steps: Vec<Step>) -> Program {
     let mut code = vec![0; 40 * steps.len()];
-    let (answer, pairs) = boundary::translate(&sheet_of(&steps), Terms::just(&steps), &mut code);
+    let (answer, pairs) = boundary::translate(&sheet_of(&steps), model::needed(&steps), &mut code);
     assert_eq!(answer, 0, "a sheet that keeps the rules and has its rows is translated");
     code.truncate(2 * pairs as usize);
     Program { steps, code, file: chance.file(), mark: u8::from(index % 3 == 2) }

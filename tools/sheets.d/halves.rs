@@ -3,7 +3,7 @@
 use crate::answers;
 use crate::chance::{sheet_of, Chance};
 use crate::compare::Compared;
-use crate::model::{Terms, EVERY_MARK};
+use crate::model::EVERY_MARK;
 use crate::pairs::ones;
 use crate::step::Step;
 use std::collections::BTreeSet;
@@ -53,10 +53,9 @@ impl Compared {
     fn constant(&mut self, chance: &mut Chance, step: Step) -> usize {
         let sheet = sheet_of(&[step]);
         let n = answers::count(&sheet).unwrap_or(0);
-        let terms = Terms::thrice(EVERY_MARK);
-        self.translation(chance, &sheet, terms, 2 * n);
-        self.translation(chance, &sheet, terms, 2 * n - 1);
-        self.evaluation(chance, &sheet, terms, 2 * n + 2, n as u64, 32);
+        self.translation(chance, &sheet, EVERY_MARK, 2 * n);
+        self.translation(chance, &sheet, EVERY_MARK, 2 * n - 1);
+        self.evaluation(chance, &sheet, EVERY_MARK, 2 * n + 2, n as u64, 32);
         n
     }
 }

@@ -2,7 +2,7 @@
 
 use crate::chance::Chance;
 use crate::compare::{need, number, room, Compared, Translation};
-use crate::model::{named_by, RowSet, Terms, EVERY_MARK, EVERY_ROW};
+use crate::model::{filled_by, Filled, EVERY_MARK, EVERY_ROW};
 use crate::step::{steps_of, Step};
 
 /// The sorts of lists, as `Chance::list` numbers them.
@@ -11,15 +11,15 @@ const SORTS: &str =
      6 such marks alone, 7 any, 8 every mark but that of a row needed, 9 the rows needed and any)";
 
 /// A sheet that is translated into so many halfwords with one list after another.
-pub struct Listed<'a> {
-    pub sheet: &'a [u8],
-    pub room: usize,
+struct Listed<'a> {
+    sheet: &'a [u8],
+    room: usize,
     /// The chances of what the halfwords are before.
-    pub before: Chance,
+    before: Chance,
 }
 
 impl Compared {
-    /// A sheet with a list and every row allowed, by both calls. Its chances are its own and change no other case.
+    /// A sheet with a list, by both calls. Its chances are its own and change no other case.
     pub fn listed(&mut self, sheet: &[u8], needed: u16) {
         let mut chance = Chance(self.sheets << 32 | 1);
         let (sort, filled) = chance.list(needed);
@@ -29,7 +29,7 @@ impl Compared {
         if answer == 16 {
             self.counts.add("lists with 16, by their sort", sort as u64);
         }
-        let answer = self.evaluated(&mut chance, sheet, Terms::every(filled));
+        let answer = self.evaluated(&mut chance, sheet, filled);
         self.counts.add("evaluation answers with a list", answer.into());
     }
 
@@ -37,17 +37,17 @@ impl Compared {
     fn translated_with(&mut self, chance: &mut Chance, sheet: &[u8], filled: u16) -> u64 {
         let need = need(chance, sheet);
         let listed = Listed { sheet, room: room(chance, need), before: Chance(self.sheets << 32 | 2) };
-        let first = self.on_terms(&listed, Terms::every(filled));
-        self.same(&listed, &first, Terms::every(filled ^ chance.one(&[0x4000, 0x8000, 0xc000])));
+        let first = self.with_list(&listed, filled);
+        self.same(&listed, &first, filled ^ chance.one(&[0x4000, 0x8000, 0xc000]));
         match first.due {
             Ok(_) => {
                 let larger = filled | chance.word() as u16;
-                self.same(&listed, &first, Terms::every(larger));
+                self.same(&listed, &first, larger);
                 self.passed(&steps_of(sheet), filled, larger);
             }
             Err((16, index)) => {
-                let every_row = self.on_terms(&listed, Terms::every(EVERY_ROW));
-                self.same(&listed, &every_row, Terms::every(EVERY_MARK));
+                let every_row = self.with_list(&listed, EVERY_ROW);
+                self.same(&listed, &every_row, EVERY_MARK);
                 self.counts.add("sheets with 16, their answers once every row is filled", number(&every_row.due));
                 self.unfilled(&steps_of(sheet), filled, index as usize);
                 self.both_faults(&steps_of(sheet), filled);
@@ -58,14 +58,14 @@ impl Compared {
         number(&first.due)
     }
 
-    pub fn on_terms(&mut self, listed: &Listed, terms: Terms) -> Translation {
-        self.translation(&mut listed.before.clone(), listed.sheet, terms, listed.room)
+    fn with_list(&mut self, listed: &Listed, filled: u16) -> Translation {
+        self.translation(&mut listed.before.clone(), listed.sheet, filled, listed.room)
     }
 
-    /// Other terms on which ours has to answer the same and leave the same output.
-    pub fn same(&mut self, listed: &Listed, first: &Translation, terms: Terms) {
-        let again = self.on_terms(listed, terms);
-        let case = || format!("the same of {:x?} with {terms} into {}", listed.sheet, listed.room);
+    /// Another list with which ours has to answer the same and leave the same output.
+    fn same(&mut self, listed: &Listed, first: &Translation, filled: u16) {
+        let again = self.with_list(listed, filled);
+        let case = || format!("the same of {:x?} with {filled:04x} into {}", listed.sheet, listed.room);
         self.report.expect((again.ours, &again.out), (first.ours, &first.out), case);
     }
 
@@ -99,20 +99,16 @@ impl Compared {
         let reads = |index: &usize| steps[*index].missing(&filled_before(steps, filled, *index)).next().is_some();
         let broken = steps.iter().position(|step| !step.keeps());
         let unfilled = (0..steps.len()).find(reads);
-        self.order("sheets with 13 and 16 (0 13 first, 1 both at one step, 2 16 first)", broken, unfilled);
-    }
-
-    /// Two faults of a sheet, counted by which step's comes first.
-    pub fn order(&mut self, what: &'static str, first: Option<usize>, second: Option<usize>) {
-        if let (Some(first), Some(second)) = (first, second) {
-            self.counts.add(what, u64::from(second <= first) + u64::from(second < first));
+        if let (Some(broken), Some(unfilled)) = (broken, unfilled) {
+            let order = u64::from(unfilled <= broken) + u64::from(unfilled < broken);
+            self.counts.add("sheets with 13 and 16 (0 13 first, 1 both at one step, 2 16 first)", order);
         }
     }
 }
 
 /// The rows that are filled before the step of that index.
-pub fn filled_before(steps: &[Step], filled: u16, index: usize) -> RowSet {
-    let mut rows = named_by(filled);
+fn filled_before(steps: &[Step], filled: u16, index: usize) -> Filled {
+    let mut rows = filled_by(filled);
     steps[..index].iter().for_each(|step| step.fill(&mut rows));
     rows
 }

@@ -11,8 +11,6 @@ mod lists;
 mod means;
 mod model;
 mod pairs;
-mod rank_cases;
-mod ranks;
 #[path = "../compare.d/oracle/report.rs"]
 mod report;
 mod sample;

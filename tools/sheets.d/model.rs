@@ -1,54 +1,17 @@
-//! What a sum sheet says, by documents 01 and 02 alone: the step rules, the rows that steps read and set, which of them
-//! are filled and allowed, and the rows by whole numbers. It knows no pair.
+//! What a sum sheet says, by documents 01 and 02 alone: the step rules, the rows that steps read and that are filled,
+//! and the rows by whole numbers. It knows no pair.
 
 use crate::step::Step;
-use std::fmt;
 
 /// The 14 rows, 128 bits each.
 pub type Rows = [u128; 14];
 
-/// Some of the 14 rows.
-pub type RowSet = [bool; 14];
+/// Which of the 14 rows are filled.
+pub type Filled = [bool; 14];
 
 /// The list that names every row, and the one with every mark.
 pub const EVERY_ROW: u16 = 0x3fff;
 pub const EVERY_MARK: u16 = 0xffff;
-
-/// What a sheet comes with, as lists: the rows filled beforehand, those that it may read and those that it may set.
-#[derive(Clone, Copy)]
-pub struct Terms {
-    pub filled: u16,
-    pub may_read: u16,
-    pub may_set: u16,
-}
-
-impl Terms {
-    /// The same list for all three.
-    pub fn thrice(list: u16) -> Terms {
-        Terms { filled: list, may_read: list, may_set: list }
-    }
-
-    /// A list of filled rows, with leave for every row.
-    pub fn every(filled: u16) -> Terms {
-        Terms { filled, ..Terms::thrice(EVERY_ROW) }
-    }
-
-    /// Each of the three changed.
-    pub fn map(self, mut f: impl FnMut(u16) -> u16) -> Terms {
-        Terms { filled: f(self.filled), may_read: f(self.may_read), may_set: f(self.may_set) }
-    }
-
-    /// The rows that steps need, and no others.
-    pub fn just(steps: &[Step]) -> Terms {
-        Terms { filled: needed(steps), may_read: read(steps), may_set: set(steps) }
-    }
-}
-
-impl fmt::Display for Terms {
-    fn fmt(&self, to: &mut fmt::Formatter) -> fmt::Result {
-        write!(to, "{:04x} {:04x} {:04x}", self.filled, self.may_read, self.may_set)
-    }
-}
 
 /// What each kind uses: a, b, c; w a width code to 3, n one to 2; l an amount to w - 1, r one to w;
 /// s the sign; k the two words.
@@ -97,18 +60,13 @@ impl Step {
         [('a', self.a), ('b', self.b), ('c', self.c)].into_iter().filter(move |(letter, _)| uses(kind, *letter))
     }
 
-    /// The rows that the step reads and a set lacks: nobody filled them, or the sheet may not read them.
-    pub fn missing<'a>(&self, set: &'a RowSet) -> impl Iterator<Item = (char, u8)> + 'a {
-        self.reads().filter(|(_, row)| set.get(usize::from(*row)) == Some(&false))
-    }
-
-    /// Whether the step sets a row that the sheet may not set.
-    pub fn sets_outside(&self, may_set: &RowSet) -> bool {
-        may_set.get(usize::from(self.target)) == Some(&false)
+    /// The rows that the step reads and nobody filled.
+    pub fn missing<'a>(&self, filled: &'a Filled) -> impl Iterator<Item = (char, u8)> + 'a {
+        self.reads().filter(|(_, row)| filled.get(usize::from(*row)) == Some(&false))
     }
 
     /// The step's target is filled after it.
-    pub fn fill(&self, filled: &mut RowSet) {
+    pub fn fill(&self, filled: &mut Filled) {
         if let Some(row) = filled.get_mut(usize::from(self.target)) {
             *row = true;
         }
@@ -157,34 +115,18 @@ impl Step {
 }
 
 /// The rows that a list names, row r at bit r; its marks above row 13 name none.
-pub fn named_by(list: u16) -> RowSet {
+pub fn filled_by(list: u16) -> Filled {
     std::array::from_fn(|r| list >> r & 1 == 1)
-}
-
-/// The list that names these rows.
-fn list_of(rows: impl Iterator<Item = u8>) -> u16 {
-    rows.fold(0, |list, row| list | 1 << row)
 }
 
 /// The list of the rows that some step reads before any step has set them.
 pub fn needed(steps: &[Step]) -> u16 {
-    let (mut set, mut list) = (named_by(0), 0);
+    let (mut set, mut list) = (filled_by(0), 0);
     for step in steps {
-        list |= list_of(step.missing(&set).map(|(_, row)| row));
+        list |= step.missing(&set).fold(0, |rows, (_, row)| rows | 1 << row);
         step.fill(&mut set);
     }
     list
-}
-
-/// The list of the rows that some step reads.
-pub fn read(steps: &[Step]) -> u16 {
-    let none = named_by(0);
-    list_of(steps.iter().flat_map(|step| step.missing(&none)).map(|(_, row)| row))
-}
-
-/// The list of the rows that some step sets.
-pub fn set(steps: &[Step]) -> u16 {
-    list_of(steps.iter().map(|step| step.target).filter(|row| *row < 14))
 }
 
 /// The rows of a file.

@@ -1,10 +1,10 @@
-//! The sample that crates/sheet_test replays: the document's edges, random sheets, lists of filled rows, then the sets
-//! of rank_cases.rs. Two lines a case; the model gives the answers.
+//! The sample that crates/sheet_test replays: the document's edges, random sheets, then lists of filled rows. Two lines
+//! a case; the model gives the answers.
 
 use crate::answers;
 use crate::chance::{sheet_of, Chance};
 use crate::halves::constants;
-use crate::model::{needed, uses, Terms, EVERY_MARK, EVERY_ROW};
+use crate::model::{needed, uses, EVERY_MARK, EVERY_ROW};
 use crate::pairs::code_of;
 use crate::step::{Step, STEP};
 use std::process::ExitCode;
@@ -13,8 +13,8 @@ use std::process::ExitCode;
 const BEFORE: u16 = 0x5555;
 const HALFWORDS: usize = 10304;
 
-/// Random cases after the edges, as many with lists, and as many with sets.
-pub const RANDOM: usize = 40;
+/// Random cases after the edges, and as many with lists.
+const RANDOM: usize = 40;
 
 /// A kind, a byte of its step and a value that breaks a rule.
 #[rustfmt::skip]
@@ -87,21 +87,19 @@ const LISTED: [(&[[u8; 5]], &[u16]); 34] = [
     (&[[12, 1, 2, 3, 0], [13, 2, 3, 4, 0]], &[0x0018, 0x000c, 0x001c]),
 ];
 
-/// How a case's sheet is handed in; what is left out is as much as is needed, and every row filled and allowed.
+/// How a case's sheet is handed in; what is left out is as much as is needed, and every row filled.
 #[derive(Clone, Copy, Default)]
-pub struct How {
-    pub filled: Option<u16>,
-    pub may_read: Option<u16>,
-    pub may_set: Option<u16>,
-    pub start: u64,
-    pub file: Option<usize>,
-    pub room: Option<usize>,
-    pub budget: Option<u64>,
+struct How {
+    filled: Option<u16>,
+    start: u64,
+    file: Option<usize>,
+    room: Option<usize>,
+    budget: Option<u64>,
 }
 
-pub struct Sample {
-    pub chance: Chance,
-    /// The cases so far; by turns a list that is left out has every row and every mark.
+struct Sample {
+    chance: Chance,
+    /// The cases so far; by turns every row is filled and every mark set.
     cases: usize,
 }
 
@@ -118,7 +116,6 @@ pub fn sample() -> ExitCode {
     sample.rows();
     sample.unfilled();
     sample.random_lists();
-    sample.ranks();
     ExitCode::SUCCESS
 }
 
@@ -133,7 +130,7 @@ fn hexadecimal(file: &[u64; 32]) -> String {
 
 impl Sample {
     /// The two lines of a case: what is handed in and what comes back, then the sheet.
-    pub fn case(&mut self, sheet: &[u8], how: How) -> [u64; 32] {
+    fn case(&mut self, sheet: &[u8], how: How) -> [u64; 32] {
         let file = self.chance.file();
         self.case_on(sheet, how, file)
     }
@@ -141,15 +138,12 @@ impl Sample {
     fn case_on(&mut self, sheet: &[u8], how: How, file: [u64; 32]) -> [u64; 32] {
         self.cases += 1;
         let pairs = answers::count(sheet).unwrap_or(0);
-        let every = |turn: usize| [EVERY_ROW, EVERY_MARK][self.cases >> turn & 1];
-        let filled = how.filled.unwrap_or(every(0));
-        let (may_read, may_set) = (how.may_read.unwrap_or(every(1)), how.may_set.unwrap_or(every(2)));
-        let terms = Terms { filled, may_read, may_set };
+        let filled = how.filled.unwrap_or([EVERY_ROW, EVERY_MARK][self.cases % 2]);
         let room = how.room.unwrap_or(2 * pairs);
         let budget = how.budget.unwrap_or(pairs as u64);
         let words = how.file.unwrap_or(32);
         let mut out = [BEFORE; HALFWORDS];
-        let (answer, index, executed, left) = match answers::translation(sheet, terms, room) {
+        let (answer, index, executed, left) = match answers::translation(sheet, filled, room) {
             Err((answer, index)) => (answer, index, 0, file),
             Ok(pairs) => {
                 out[..2 * pairs.len()].copy_from_slice(&code_of(&pairs));
@@ -158,7 +152,7 @@ impl Sample {
                 (answer, 0, executed, left)
             }
         };
-        let given = format!("{:04x} {room:04x} {terms} {:016x} {words:04x} {budget:016x}", sheet.len(), how.start);
+        let given = format!("{:04x} {room:04x} {filled:04x} {:016x} {words:04x} {budget:016x}", sheet.len(), how.start);
         let answered = format!("{answer:02x} {index:04x} {executed:04x} {:016x}", check(&out));
         println!("{given} {answered} {} {}", hexadecimal(&file), hexadecimal(&left));
         println!("{}", sheet.iter().map(|byte| format!("{byte:02x}")).collect::<String>());
@@ -349,6 +343,6 @@ impl Sample {
 }
 
 /// A step of a kind on rows, with lanes of 8 bits, amount and sign 0, and 0 for a constant.
-pub fn on_rows(&[kind, target, a, b, c]: &[u8; 5]) -> Step {
+fn on_rows(&[kind, target, a, b, c]: &[u8; 5]) -> Step {
     Step { kind, target, a, b, c, ..Step::default() }
 }

@@ -5,7 +5,7 @@
 use crate::answers;
 use crate::boundary;
 use crate::chance::{sheet_of, Chance};
-use crate::model::{Terms, EVERY_MARK};
+use crate::model::EVERY_MARK;
 use crate::pairs::{code_of, ones, Pair};
 use crate::step::Step;
 use std::hint::black_box;
@@ -37,10 +37,9 @@ struct Sheet {
 impl Sheet {
     fn new(what: &'static str, steps: &[Step]) -> Sheet {
         let sheet = sheet_of(steps);
-        let terms = Terms::thrice(EVERY_MARK);
-        let pairs = answers::translation(&sheet, terms, usize::MAX).expect("a sheet that keeps the rules");
+        let pairs = answers::translation(&sheet, EVERY_MARK, usize::MAX).expect("a sheet that keeps the rules");
         let mut code = vec![0; MOST * steps.len()];
-        let (_, count) = boundary::translate(&sheet, terms, &mut code);
+        let (_, count) = boundary::translate(&sheet, EVERY_MARK, &mut code);
         code.truncate(2 * count as usize);
         Sheet { what, steps: steps.len(), sheet, pairs, code }
     }
@@ -53,14 +52,13 @@ impl Sheet {
     /// One turn: nanoseconds a step and a pair, ours and the model's.
     fn turn(&self) -> [f64; 4] {
         let times = STEPS / self.steps;
-        let terms = Terms::thrice(EVERY_MARK);
         let mut out = vec![0; MOST * self.steps];
         let mut file = [0x0123_4567_89ab_cdef; 32];
         let translation = timed(times, || {
-            black_box(boundary::translate(black_box(&self.sheet), terms, &mut out));
+            black_box(boundary::translate(black_box(&self.sheet), EVERY_MARK, &mut out));
         });
         let theirs = timed(times, || {
-            let pairs = answers::translation(black_box(&self.sheet), terms, usize::MAX);
+            let pairs = answers::translation(black_box(&self.sheet), EVERY_MARK, usize::MAX);
             black_box(pairs.map(|pairs| code_of(&pairs)).is_ok());
         });
         let run = timed(times, || {

@@ -12,10 +12,8 @@ use Rattle.machine.specs.State.{State, state}
 use Rattle.runs.specs.Run.{Run, run_of}
 use Rattle.sheet.specs.Demand3.{Demand3}
 use Rattle.sheet.specs.Evaluation.{evaluated_by, evaluation_of, state_left}
-use Rattle.sheet.specs.Ranks.{Ranked}
 use Rattle.steps.specs.declared.Terms.{Terms}
 use Rattle.translator.specs.Translation.{translation_of, written_of}
-use Rattle.sheet.proofs.Ranks.{ranks-hold}
 use Rattle.sheet.proofs.Whole.{sheets-hold}
 use Rattle.capi.specs.Results.{end_code, code_at, count_or_place, executed_or0, mark_in, mark_out, lent}
 
@@ -44,8 +42,7 @@ module _ (t : Terms) (bytes out : List ℕ) (file : File) (byte budget : ℕ) (s
       × ((executed ≡ executed_or0 answer)
       × ((at ≡ count_or_place (translation_of t bytes (length out)))
       × ((out' ≡ written_of t bytes out)
-      × ((file' ≡ (state_left answer s).file) × ((byte' ≡ mark_out (mark_in byte))
-      × (Demand3 t bytes out s budget out' (lent file' byte') answer × Ranked t bytes out s budget (lent file' byte') answer))))))
+      × ((file' ≡ (state_left answer s).file) × ((byte' ≡ mark_out (mark_in byte)) × Demand3 t bytes out s budget out' (lent file' byte') answer)))))
 
   -- by the translation's answer y
   leaves : (y : AnswerAt ℕ) (code executed at : ℕ) (file' : File) (byte' : ℕ) → translation_of t bytes (length out) ≡ y
@@ -70,11 +67,8 @@ module _ (t : Terms) (bytes out : List ℕ) (file : File) (byte budget : ℕ) (s
                 left,
                 (
                   mark ∙ ap mark_out held.mark,
-                  (
-                    subst (λ (o : List ℕ). Demand3 t bytes out s budget o (lent file' byte') answer) (sym w)
-                        (subst (λ (z : State). Demand3 t bytes out s budget (written_of t bytes out) z answer) (sym whole) held),
-                    subst (λ (z : State). Ranked t bytes out s budget z answer) (sym whole) (ranks-hold t bytes out s budget small),
-                  ),
+                  subst (λ (o : List ℕ). Demand3 t bytes out s budget o (lent file' byte') answer) (sym w)
+                      (subst (λ (z : State). Demand3 t bytes out s budget (written_of t bytes out) z answer) (sym whole) held),
                 ),
               ),
             ),

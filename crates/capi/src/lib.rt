@@ -6,7 +6,6 @@ ghost use Rattle.runs.specs.Run.{Run, run_of};
 ghost use Rattle.steps.specs.Faults.{terms};
 ghost use Rattle.sheet.specs.Demand3.{Demand3};
 ghost use Rattle.sheet.specs.Evaluation.{evaluation_of, state_left};
-ghost use Rattle.sheet.specs.Ranks.{Ranked};
 ghost use Rattle.translator.specs.Translation.{translation_of, written_of};
 ghost use Rattle.encode.specs.Writing.{writing_in};
 ghost use Rattle.listing.specs.Answers.{length_for, out_after};
@@ -18,7 +17,6 @@ use editions::edition_of;
 use listing::Listed;
 use machine::Outcome;
 use readings::Reading;
-use steps::Terms;
 use translator::Translation;
 use writings::Writing;
 
@@ -87,27 +85,15 @@ pub extern "C" fn bodlixo_run(
     }
 }
 
-// Translates a sheet into the output, with the sets of the rows that were filled beforehand, that it may read and that it
-// may set: 0 and the pair count, or the refusal's number and its step's index, else 0.
+// Translates a sheet into the output, with the list of the rows that were filled beforehand: 0 and the pair count, or the
+// refusal's number and its step's index, else 0.
 #[unsafe(no_mangle)]
-pub extern "C" fn bodlixo_translate(
-    sheet: &[u8],
-    filled: u16,
-    may_read: u16,
-    may_set: u16,
-    out: &mut [u16],
-    at: &mut u64,
-) -> u32
-    ensures code { result ≡ code_at (λ (n : ℕ). 0) (translation_of (terms filled may_read may_set) sheet.now (length out.old)) }
-    ensures at { at.new ≡ count_or_place (translation_of (terms filled may_read may_set) sheet.now (length out.old)) }
-    ensures out { out.new ≡ written_of (terms filled may_read may_set) sheet.now out.old }
+pub extern "C" fn bodlixo_translate(sheet: &[u8], filled: u16, out: &mut [u16], at: &mut u64) -> u32
+    ensures code { result ≡ code_at (λ (n : ℕ). 0) (translation_of (terms filled) sheet.now (length out.old)) }
+    ensures at { at.new ≡ count_or_place (translation_of (terms filled) sheet.now (length out.old)) }
+    ensures out { out.new ≡ written_of (terms filled) sheet.now out.old }
 {
-    let terms = Terms {
-        filled,
-        readable: may_read,
-        settable: may_set,
-    };
-    let answer = translator::translate(sheet, terms, out);
+    let answer = translator::translate(sheet, filled, out);
     match answer {
         Translation::Pairs(n) => {
             *at = n;
@@ -124,15 +110,13 @@ pub extern "C" fn bodlixo_translate(
     }
 }
 
-// Translates a sheet into the output, with the three sets, and runs the pairs on the file: 0 when done; or the translation's
-// refusal, with the file as it was and 0 executed; or the run's. `at` is as in `bodlixo_translate`. The mark stays as it
-// came, as 0 or 1.
+// Translates a sheet into the output, with the list of filled rows, and runs the pairs on the file: 0 when done; or the
+// translation's refusal, with the file as it was and 0 executed; or the run's. `at` is as in `bodlixo_translate`. The mark
+// stays as it came, as 0 or 1.
 #[unsafe(no_mangle)]
 pub extern "C" fn bodlixo_evaluate(
     sheet: &[u8],
     filled: u16,
-    may_read: u16,
-    may_set: u16,
     out: &mut [u16],
     file: &mut [u64],
     budget: u64,
@@ -140,21 +124,15 @@ pub extern "C" fn bodlixo_evaluate(
     executed: &mut u64,
     at: &mut u64,
 ) -> u32
-    ensures* code { λ r. ⌜ r ≡ code_at (λ (r : Run). end_code r.ending) (evaluation_of (terms filled may_read may_set) sheet.now out.old (lent file.old mark.old) budget) ⌝ }
-    ensures executed { executed.new ≡ executed_or0 (evaluation_of (terms filled may_read may_set) sheet.now out.old (lent file.old mark.old) budget) }
-    ensures at { at.new ≡ count_or_place (translation_of (terms filled may_read may_set) sheet.now (length out.old)) }
-    ensures out { out.new ≡ written_of (terms filled may_read may_set) sheet.now out.old }
-    ensures file { file.new ≡ (state_left (evaluation_of (terms filled may_read may_set) sheet.now out.old (lent file.old mark.old) budget) (lent file.old mark.old)).file }
+    ensures* code { λ r. ⌜ r ≡ code_at (λ (r : Run). end_code r.ending) (evaluation_of (terms filled) sheet.now out.old (lent file.old mark.old) budget) ⌝ }
+    ensures executed { executed.new ≡ executed_or0 (evaluation_of (terms filled) sheet.now out.old (lent file.old mark.old) budget) }
+    ensures at { at.new ≡ count_or_place (translation_of (terms filled) sheet.now (length out.old)) }
+    ensures out { out.new ≡ written_of (terms filled) sheet.now out.old }
+    ensures file { file.new ≡ (state_left (evaluation_of (terms filled) sheet.now out.old (lent file.old mark.old) budget) (lent file.old mark.old)).file }
     ensures mark { mark.new ≡ mark_out (mark_in mark.old) }
-    ensures demand3 { Demand3 (terms filled may_read may_set) sheet.now out.old (lent file.old mark.old) budget out.new (lent file.new mark.new) (evaluation_of (terms filled may_read may_set) sheet.now out.old (lent file.old mark.old) budget) }
-    ensures ranks { Ranked (terms filled may_read may_set) sheet.now out.old (lent file.old mark.old) budget (lent file.new mark.new) (evaluation_of (terms filled may_read may_set) sheet.now out.old (lent file.old mark.old) budget) }
+    ensures demand3 { Demand3 (terms filled) sheet.now out.old (lent file.old mark.old) budget out.new (lent file.new mark.new) (evaluation_of (terms filled) sheet.now out.old (lent file.old mark.old) budget) }
 {
-    let terms = Terms {
-        filled,
-        readable: may_read,
-        settable: may_set,
-    };
-    let translated = translator::translate(sheet, terms, out);
+    let translated = translator::translate(sheet, filled, out);
     match translated {
         Translation::Pairs(count) => {
             *at = count;

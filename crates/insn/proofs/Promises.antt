@@ -5,11 +5,11 @@ use mathlib.Core.List.{[], ◌∷◌}
 use Prim.Native.Nat.{ℕ}
 use lib.ListN.{get_or}
 use Rattle.insn.specs.declared.Refusal.{Refusal}
-use Rattle.insn.specs.declared.Refusal.TheVariants.{NoFamily, FixedBits, BlankCell, ZeroImmediate, PairwiseQuad, OddQuad, UnknownMnemonic, WrongForm, NoSuchValue, NoMeaning, WrongExtent, SheetLength, StepRule, ShortOutput, BudgetSpent, UnfilledRow, ForbiddenRow}
+use Rattle.insn.specs.declared.Refusal.TheVariants.{NoFamily, FixedBits, BlankCell, ZeroImmediate, PairwiseQuad, OddQuad, UnknownMnemonic, WrongForm, NoSuchValue, NoMeaning, WrongExtent, SheetLength, StepRule, ShortOutput, BudgetSpent, UnfilledRow}
 use Rattle.insn.specs.Refusals.{number}
 use Rattle.insn.specs.Promises.{NumberedApart}
 
--- the refusal of a number, of which `number` is the inverse; NoFamily where a number has none
+-- the refusal of a number, of which `number` is the inverse
 abbrev named : ℕ → Refusal
 named n =
     get_or
@@ -30,10 +30,6 @@ named n =
     ∷ ShortOutput
     ∷ BudgetSpent
     ∷ UnfilledRow
-    ∷ NoFamily
-    ∷ NoFamily
-    ∷ NoFamily
-    ∷ ForbiddenRow
     ∷ [])
     n
     NoFamily
@@ -55,7 +51,6 @@ back StepRule = refl
 back ShortOutput = refl
 back BudgetSpent = refl
 back UnfilledRow = refl
-back ForbiddenRow = refl
 
 pub numbered_apart : NumberedApart
 numbered_apart f g e = sym (back f) ∙ ap named e ∙ back g

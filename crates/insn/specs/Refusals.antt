@@ -2,7 +2,7 @@
 -- Assumes nothing.
 use Rattle.std.specs.Prelude.{ℕ}
 use Rattle.insn.specs.declared.Refusal.{Refusal}
-use Rattle.insn.specs.declared.Refusal.TheVariants.{NoFamily, FixedBits, BlankCell, ZeroImmediate, PairwiseQuad, OddQuad, UnknownMnemonic, WrongForm, NoSuchValue, NoMeaning, WrongExtent, SheetLength, StepRule, ShortOutput, BudgetSpent, UnfilledRow, ForbiddenRow}
+use Rattle.insn.specs.declared.Refusal.TheVariants.{NoFamily, FixedBits, BlankCell, ZeroImmediate, PairwiseQuad, OddQuad, UnknownMnemonic, WrongForm, NoSuchValue, NoMeaning, WrongExtent, SheetLength, StepRule, ShortOutput, BudgetSpent, UnfilledRow}
 
 abbrev pub number : Refusal → ℕ
 -- reading
@@ -23,7 +23,6 @@ number WrongExtent = 11  -- halfwords, file or start that are no run; bytes that
 number SheetLength = 12  -- a length that is no sheet's
 number StepRule = 13  -- a step that breaks a step rule
 number UnfilledRow = 16  -- a step that reads a row which nobody filled
-number ForbiddenRow = 20  -- a step that reads or sets a row which is not allowed to it
 -- the state
 number ShortOutput = 14  -- the output is shorter than what is to be written
 number BudgetSpent = 15  -- pairs remain and the budget is used up

@@ -79,7 +79,6 @@ pub enum Refusal {
     ShortOutput,
     BudgetSpent,
     UnfilledRow,
-    ForbiddenRow,
 }
 
 // The operand at place k, counted from 0.
@@ -122,6 +121,5 @@ pub fn refusal_number(f: Refusal) -> u8
         Refusal::ShortOutput => 14,
         Refusal::BudgetSpent => 15,
         Refusal::UnfilledRow => 16,
-        Refusal::ForbiddenRow => 20,
     }
 }

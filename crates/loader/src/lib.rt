@@ -1,14 +1,12 @@
-// loading SHEET START [FILLED [MAY_READ [MAY_SET]]]: runs a sum sheet on a start file, and writes the pair count and rows 0
-// to 13, or the refusal; and `saturated` where the mark, which starts as no, ends as yes. FILLED lists the rows that were
-// filled beforehand, as 0,1,2, MAY_READ those that the sheet may read and MAY_SET those that it may set; all rows are in a
-// list that is left out.
+// loading SHEET START [FILLED]: runs a sum sheet on a start file, and writes the pair count and rows 0 to 13, or the
+// refusal; and `saturated` where the mark, which starts as no, ends as yes. FILLED lists the rows that were filled
+// beforehand, as 0,1,2; all were where it is left out.
 ghost use Rattle.std.specs.Prelude.{◌+◌, ◌<◌, ◌≤◌, length};
 ghost use Rattle.loader.specs.Start.{StartFile};
 
 use little_endian::word_at;
 use report::{put, put_answer};
-use row_list::{RowList, TermList, row_list, term_list};
-use steps::Terms;
+use row_list::{RowList, row_list};
 
 // Reads the file that argument k names, as far as the buffer reaches: how many bytes, or one more than it holds
 // where there is no such file.
@@ -43,61 +41,53 @@ fn file_of(start: &[u8; 257]) -> [u64; 32]
     file
 }
 
-// Evaluates a sheet on a start file, with these terms, and writes what comes of it.
-fn evaluate(sheet: &[u8], start: &[u8; 257], terms: Terms) {
+// Evaluates a sheet on a start file, with a list of filled rows, and writes what comes of it.
+fn evaluate(sheet: &[u8], start: &[u8; 257], filled: u16) {
     let mut file = file_of(start);
     let mut out = [0u16; 10240];
     let mut mark = false;
-    let answer = sheet::evaluate(sheet, terms, &mut out, &mut file, u64::MAX, &mut mark);
-    put_answer(answer, sheet, terms, file, mark);
+    let answer = sheet::evaluate(sheet, filled, &mut out, &mut file, u64::MAX, &mut mark);
+    put_answer(answer, sheet, filled, file, mark);
 }
 
-// What is wrong with the arguments, and what they should be.
-fn put_wrong(what: &[u8]) {
-    put(what);
-    put(b": loading SHEET START [FILLED [MAY_READ [MAY_SET]]]\n");
-}
-
-// Runs the sheet of the first argument on the start file of the second, with these terms.
-fn load_with(terms: TermList) {
+// Runs the sheet of the first argument on the start file of the second, with a list of filled rows as text.
+pub fn load_listed(list: &[u8]) {
     let mut sheet = [0u8; 6145];
     let n = read_file(1, &mut sheet);
     if 6145 < n {
-        put_wrong(b"no sheet");
+        put(b"no sheet: loading SHEET START [FILLED]\n");
         return;
     }
     let mut start = [0u8; 257];
     if read_file(2, &mut start) != 256 {
-        put_wrong(b"no start file of 256 bytes");
+        put(b"no start file of 256 bytes: loading SHEET START [FILLED]\n");
         return;
     }
-    match terms {
-        TermList::Listed(t) => evaluate(&sheet[..n], &start, t),
-        TermList::NoTerms => put_wrong(b"no list of rows, as 0,1,2 or none or all"),
+    let filled = row_list(list);
+    match filled {
+        RowList::Rows(rows) => evaluate(&sheet[..n], &start, rows),
+        RowList::NoList => put(
+            b"no list of rows, as 0,1,2 or none or all: loading SHEET START [FILLED]\n",
+        ),
     }
 }
 
-// The same with the lists of the rows that were filled, that may be read and that may be set as texts.
-pub fn load_listed(filled: &[u8], may_read: &[u8], may_set: &[u8]) {
-    load_with(term_list(row_list(filled), row_list(may_read), row_list(may_set)));
-}
-
-// The rows that argument k lists, all where there are not so many arguments. An argument of more than 4096 bytes is no
-// list.
-fn rows_of(k: usize) -> RowList {
-    if os::arg_count() <= k {
-        return row_list(b"all");
-    }
-    let mut text = io::buffer();
-    let n = os::arg(k, &mut text);
-    row_list(&text[..n])
-}
-
-// The same with the lists that are the next three arguments.
+// The same with the list that is the third argument; all rows where there is none.
 pub fn load() {
-    if 6 < os::arg_count() {
-        put_wrong(b"not more than three lists of rows");
+    let count = os::arg_count();
+    if count < 4 {
+        load_listed(b"all");
         return;
     }
-    load_with(term_list(rows_of(3), rows_of(4), rows_of(5)));
+    let mut list = io::buffer();
+    let n = os::arg(3, &mut list);
+    if os::errno() != 0 {
+        put(b"no list of rows of at most 4096 bytes: loading SHEET START [FILLED]\n");
+        return;
+    }
+    if 4 < count {
+        put(b"not more than one list of rows: loading SHEET START [FILLED]\n");
+        return;
+    }
+    load_listed(&list[..n]);
 }

@@ -1,4 +1,4 @@
-// loading SHEET START [FILLED [MAY_READ [MAY_SET]]]: the loading computer.
+// loading SHEET START [FILLED]: the loading computer.
 fn main() {
     loader::load();
 }

@@ -74,7 +74,7 @@ pub fn measure(sheet: &[u8], n: usize, terms: Terms) -> Measured
     while i < n {
         let s = step_at(sheet, 24 * i);
         let after = with_row(filled, s.target);
-        let verdict = step_fault(s, terms, filled);
+        let verdict = step_fault(s, filled);
         match verdict {
             Verdict::Faulty(cause) => {
                 return Measured::Faulty(cause, i as u64);

@@ -1,12 +1,11 @@
-// What `loading` writes: the pair count and rows 0 to 13, or the refusal, with the row that a 16 or a 20 is about; and the
-// mark where it is yes.
-use fault_row::{FaultRow, fault_row};
+// What `loading` writes: the pair count and rows 0 to 13, or the refusal, with the row that a 16 is about; and the mark
+// where it is yes.
 use insn::Refusal;
 use libc::STDOUT_FILENO;
 use machine::Outcome;
 use runs::Ran;
 use sheet::Evaluation;
-use steps::Terms;
+use unfilled::{Unfilled, unfilled_row};
 
 // Writes a text.
 pub fn put(text: &[u8]) {
@@ -70,28 +69,24 @@ fn put_mark(mark: bool) {
     }
 }
 
-// The answer of a sheet's evaluation on these terms, and the file and the mark that it leaves.
-pub fn put_answer(answer: Evaluation, sheet: &[u8], terms: Terms, file: [u64; 32], mark: bool) {
-    put_evaluation(answer, sheet, terms, file);
+// The answer of a sheet's evaluation with a list of filled rows, and the file and the mark that it leaves.
+pub fn put_answer(answer: Evaluation, sheet: &[u8], filled: u16, file: [u64; 32], mark: bool) {
+    put_evaluation(answer, sheet, filled, file);
     put_mark(mark);
 }
 
-fn put_row_and(r: u8, what: &[u8]) {
-    put_number(b": row ", r as u64);
-    put(what);
-}
-
-// The row that a refusal is about, where it is about one.
-fn put_fault_row(row: FaultRow) {
+// The row that nobody filled, where there is one.
+fn put_unfilled(row: Unfilled) {
     match row {
-        FaultRow::NotFilled(r) => put_row_and(r, b" was not filled"),
-        FaultRow::NotReadable(r) => put_row_and(r, b" may not be read"),
-        FaultRow::NotSettable(r) => put_row_and(r, b" may not be set"),
-        FaultRow::NoRow => {}
+        Unfilled::Row(r) => {
+            put_number(b": row ", r as u64);
+            put(b" was not filled");
+        }
+        Unfilled::NoRow => {}
     }
 }
 
-fn put_evaluation(answer: Evaluation, sheet: &[u8], terms: Terms, file: [u64; 32]) {
+fn put_evaluation(answer: Evaluation, sheet: &[u8], filled: u16, file: [u64; 32]) {
     match answer {
         Evaluation::Ran(ran) => put_run(ran, file),
         Evaluation::Refused(f) => {
@@ -101,7 +96,7 @@ fn put_evaluation(answer: Evaluation, sheet: &[u8], terms: Terms, file: [u64; 32
         Evaluation::RefusedAt(f, i) => {
             put_refusal(f);
             put_number(b" at step ", i);
-            put_fault_row(fault_row(sheet, terms));
+            put_unfilled(unfilled_row(sheet, filled));
             put(b"\n");
         }
     }

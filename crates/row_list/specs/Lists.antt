@@ -4,8 +4,6 @@ use Rattle.std.specs.Prelude.{Bool, true, false, List, [], ◌∷◌, ℕ, eqb}
 use Rattle.laws.specs.Choice.{choose, both}
 use Rattle.laws.specs.Search.{Found, at, none, first_below}
 use Rattle.names.specs.Names.{codes}
-use Rattle.steps.specs.declared.Terms.{Terms}
-use Rattle.steps.specs.Faults.{terms}
 use Rattle.steps.specs.Sets.{set_of}
 use Rattle.text.specs.Text.{decimal}
 
@@ -62,10 +60,3 @@ as_set no_list = no_list
 -- the set of the rows of a list
 abbrev pub list_of : List ℕ → Parsed ℕ
 list_of text = as_set (rows_listed text)
-
--- the terms of a sheet from the rows that were filled, that may be read and that may be set, where all three are listed
-abbrev pub terms_listed : Parsed ℕ → Parsed ℕ → Parsed ℕ → Parsed Terms
-terms_listed (listed filled) (listed readable) (listed settable) = listed (terms filled readable settable)
-terms_listed (listed filled) (listed readable) no_list = no_list
-terms_listed (listed filled) no_list settable = no_list
-terms_listed no_list readable settable = no_list

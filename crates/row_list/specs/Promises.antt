@@ -3,16 +3,12 @@
 use Rattle.std.specs.Prelude.{◌≡◌}
 use Rattle.names.specs.Names.{codes}
 use Rattle.row_list.specs.declared.RowList.{RowList}
-use Rattle.row_list.specs.declared.TermList.{TermList}
-use Rattle.row_list.specs.Answers.{list_answer, terms_answer}
+use Rattle.row_list.specs.Answers.{list_answer}
 use Rattle.row_list.specs.Lists.{listed, no_list, list_of}
 
 -- an answer says which case it is
 abbrev pub ListsApart : Type 0
 ListsApart = (x y : RowList) → list_answer x ≡ list_answer y → x ≡ y
-
-abbrev pub TermsApart : Type 0
-TermsApart = (x y : TermList) → terms_answer x ≡ terms_answer y → x ≡ y
 
 -- worked texts
 abbrev pub WorkedLists : Type 0

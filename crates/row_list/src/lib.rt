@@ -1,23 +1,14 @@
-// Lists of rows, as the texts of arguments, to the sets of them, row r at bit r; and three of them as a sheet's terms.
+// A list of rows, as the text of an argument, to the set of them: row r at bit r.
 ghost use Rattle.std.specs.Prelude.{◌≡◌, ◌∷◌, [], ◌+◌, ◌≤◌, length};
-ghost use Rattle.row_list.specs.Answers.{list_answer, terms_answer};
-ghost use Rattle.row_list.specs.Lists.{same_text, words_of, rows_named, as_set, list_of, terms_listed};
+ghost use Rattle.row_list.specs.Answers.{list_answer};
+ghost use Rattle.row_list.specs.Lists.{same_text, words_of, rows_named, as_set, list_of};
 ghost use Rattle.row_list.specs.Own.{digit_row, EndsAt};
-
-use steps::Terms;
 
 // The set of the rows of a list; or the text is no list.
 #[derive(Drop)]
 pub enum RowList {
     Rows(u16),
     NoList,
-}
-
-// The terms that three lists make; or one of them is no list.
-#[derive(Drop)]
-pub enum TermList {
-    Listed(Terms),
-    NoTerms,
 }
 
 // Whether two texts are the same.
@@ -111,24 +102,4 @@ pub fn row_list(text: &[u8]) -> RowList
         return RowList::Rows(16383);
     }
     words_rows(text)
-}
-
-// The terms of a sheet from the lists of the rows that were filled, that may be read and that may be set.
-pub fn term_list(filled: RowList, readable: RowList, settable: RowList) -> TermList
-    ensures { terms_answer result ≡ terms_listed (list_answer filled) (list_answer readable) (list_answer settable) }
-{
-    let RowList::Rows(f) = filled else {
-        return TermList::NoTerms;
-    };
-    let RowList::Rows(r) = readable else {
-        return TermList::NoTerms;
-    };
-    let RowList::Rows(s) = settable else {
-        return TermList::NoTerms;
-    };
-    TermList::Listed(Terms {
-        filled: f,
-        readable: r,
-        settable: s,
-    })
 }

@@ -1,5 +1,4 @@
 pub mod AnyRuns
-pub mod Control
 pub mod Copies
 pub mod Marks
 pub mod Promises

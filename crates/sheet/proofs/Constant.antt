@@ -59,7 +59,7 @@ byte_small = agree2 (λ (k b : ℕ). ltb (b * 2 ^ (8 * k)) (2 ^ 32)) (λ (k b : 
 abbrev set_word : ℕ → ℕ → Act
 set_word r x = act (Constant Mov (twice x)) (registers false r r r)
 
-abbrev pub join_word : ℕ → ℕ → Act
+abbrev join_word : ℕ → ℕ → Act
 join_word r x = act (Constant Orr (twice x)) (registers false r r r)
 
 abbrev set_mask : Act
@@ -68,16 +68,16 @@ set_mask = act (Constant Mov 4294967295) (registers false 30 30 30)
 abbrev join_halves : ℕ → Act
 join_halves r = act (Bits Bif) (registers false r 28 30)
 
-unfoldable pub add_act : ℕ → ℕ → List Act
+add_act : ℕ → ℕ → List Act
 add_act r byte = choose (eqb byte 0) [] (join_word r byte ∷ [])
 
-unfoldable pub word_acts : ℕ → ℕ → List Act
+word_acts : ℕ → ℕ → List Act
 word_acts r v = set_word r (v % 256) ∷ (add_act r (byte_of v 1) ++ (add_act r (byte_of v 2) ++ add_act r (byte_of v 3)))
 
-abbrev pub one_act : ℕ → ℕ → Act
+one_act : ℕ → ℕ → Act
 one_act r t = act (Constant (op_at (bit 12 t) (field 11 8 t)) (pattern_at t)) (registers false r r r)
 
-unfoldable pub recipe_acts : ℕ → Recipe → List Act
+pub recipe_acts : ℕ → Recipe → List Act
 recipe_acts r (One t) = one_act r t ∷ []
 recipe_acts r (Twice v) = word_acts r v
 recipe_acts r (Joined low high) = word_acts r low ++ (word_acts 28 high ++ (set_mask ∷ join_halves r ∷ []))

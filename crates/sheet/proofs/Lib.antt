@@ -1,14 +1,11 @@
 pub mod Back
 pub mod ByKind
-pub mod Calls
 pub mod Constant
 pub mod Doing
 pub mod Executes
 pub mod Left
 pub mod Names
 pub mod Promises
-pub mod Ranks
 pub mod Rows
 pub mod Sheets
-pub mod Spared
 pub mod Whole

@@ -8,7 +8,7 @@ use native.Mathlib.Nat.{add_comm, mul_comm}
 use native.Mathlib.Omega.{arith}
 use lib.Arith.{digits_lt}
 use lib.ListN.{length, get_or, set, take}
-use lib.Seq.{take-set-lt, get_or-take, length-take-le}
+use lib.Seq.{take-set-lt, get_or-take}
 use Rattle.operations.specs.declared.Operation.{Operation}
 use Rattle.effects.specs.File.{File, Good, read_r}
 use Rattle.meanings.specs.Meaning.{Act, act, registers}
@@ -99,8 +99,3 @@ row_lt file r h g =
     let z = g.size in
     rw (get_or-take 14 (paired file) r 0 h, paired-get file r (omega arith), add_comm (get_or file (2 * r) 0), mul_comm (2 ^ 64) (get_or file (2 * r + 1) 0))
     (digits_lt (g.small (2 * r + 1)) (g.small (2 * r)))
-
--- a file of 32 has fourteen rows
-pub rows-length : (file : File) → length file ≡ 32 → length (rows_of file) ≡ 14
-unfolding rows_of
-rows-length file e = length-take-le 14 (paired file) (omega (arith, paired-length 16 file e))

@@ -9,15 +9,14 @@ use lib.ListN.{length, get_or, take}
 use Rattle.laws.specs.Answer as stepping
 use Rattle.laws.specs.AnswerAt.{AnswerAt, accepted, refused, refused_at}
 use Rattle.laws.proofs.Never.{never}
-use Rattle.effects.specs.File.{Good}
 use Rattle.machine.specs.State.{State, state}
 use Rattle.runs.specs.Run.{Run, done, run_pairs, run_of, machine_steps}
 use Rattle.runs.proofs.Promises.{run_kept}
 use Rattle.runs.proofs.Runs.{all-run, each-run, runs-from-start}
 use Rattle.sheet.specs.Demand3.{done_after, Demand3}
-use Rattle.sheet.specs.Evaluation.{evaluated_by, evaluation_of, state_left, rows_left}
+use Rattle.sheet.specs.Evaluation.{evaluated_by, evaluation_of, state_left}
 use Rattle.steps.specs.declared.Terms.{Terms}
-use Rattle.steps.specs.Meaning.{rows_of, row_at, meaning}
+use Rattle.steps.specs.Meaning.{rows_of, meaning}
 use Rattle.recipes.specs.Pairs.{halfwords_of}
 use Rattle.steps.specs.Steps.{steps_of}
 use Rattle.translator.specs.Translation.{records_of, translation_of, written_of, Translates}
@@ -67,16 +66,6 @@ module _ (t : Terms) (bytes out : List ℕ) (s : State) (budget n : ℕ) (a : Tr
       subst (λ (r : Run). machine_steps r.executed code s ≡ stepping.accepted r.state) same (run_kept code 0 budget s)
       ∙ ap (λ (e : AnswerAt Run). stepping.accepted (state_left e s)) (sym e)
 
--- two runs to the end leave the same in a row where the steps say the same of it
-pub both_left : (t : Terms) (bytes : List ℕ) (n r : ℕ) (out other : List ℕ) (s u : State) (budget more : ℕ)
-    → Translates t bytes (length out) n → Translates t bytes (length other) n → n ≤ budget → n ≤ more → Good s.file → Good u.file
-    → row_at (meaning (steps_of bytes) (rows_of s.file)) r ≡ row_at (meaning (steps_of bytes) (rows_of u.file)) r
-    → row_at (rows_left t bytes out s budget) r ≡ row_at (rows_left t bytes other u more) r
-both_left t bytes n r out other s u budget more a b enough plenty g h same =
-    ap (λ (l : List ℕ). row_at l r) (rows t bytes out s budget n a g.size enough g.small)
-    ∙ same
-    ∙ ap (λ (l : List ℕ). row_at l r) (sym (rows t bytes other u more n b h.size plenty h.small))
-
 -- a sheet that is not
 refuses : (t : Terms) (bytes out : List ℕ) (s : State) (budget : ℕ) → ((n : ℕ) → Translates t bytes (length out) n → ⊥)
     → let e = evaluation_of t bytes out s budget in ((r : Run) → e ≢ accepted r) × ((written_of t bytes out ≡ out) × (state_left e s ≡ s))
@@ -115,3 +104,41 @@ sheets-hold t bytes out s budget small =
       counted = λ n r a e. counted t bytes out s budget n a r e;
       refused = refuses t bytes out s budget;
     }
+
+-- the answers of the calls
+module _ (t : Terms) (bytes out : List ℕ) (s : State) (budget : ℕ) (small : (k : ℕ) → get_or s.file k 0 < 2 ^ 64) (out' : List ℕ) (w : out' ≡ written_of t bytes out) where
+  abbrev Evaluates : AnswerAt Run → State → Type 0
+  Evaluates answer s' =
+      let e = evaluation_of t bytes out s budget in
+      (answer ≡ e) × ((out' ≡ written_of t bytes out) × ((s' ≡ state_left e s) × Demand3 t bytes out s budget out' s' answer))
+
+  evaluates : (answer : AnswerAt Run) → answer ≡ evaluation_of t bytes out s budget → Evaluates answer (state_left answer s)
+  evaluates answer e = (
+    e,
+    (
+      w,
+      (
+        ap (λ (a : AnswerAt Run). state_left a s) e,
+        subst (λ (o : List ℕ). Demand3 t bytes out s budget o (state_left answer s) answer) (sym w)
+            (subst (λ (a : AnswerAt Run). Demand3 t bytes out s budget (written_of t bytes out) (state_left a s) a) (sym e) (sheets-hold t bytes out s budget small)),
+      ),
+    ),
+  )
+
+  pub after_run : (n : ℕ) (r : Run) → translation_of t bytes (length out) ≡ accepted n → r ≡ run_of (take (2 * n) out') 0 s budget → Evaluates (accepted r) r.state
+  unfolding evaluated_by
+  after_run n r f e =
+      evaluates (accepted r)
+      (ap accepted (e ∙ ap (λ (o : List ℕ). run_of (take (2 * n) o) 0 s budget) w) ∙ ap (λ (x : AnswerAt ℕ). evaluated_by x (written_of t bytes out) s budget) (sym f))
+
+  pub after-refusal : (r : ℕ) → translation_of t bytes (length out) ≡ refused r → Evaluates (refused r) s
+  unfolding evaluated_by
+  after-refusal r f = evaluates (refused r) (rw f)
+
+  pub after-refusal-at : (r i : ℕ) → translation_of t bytes (length out) ≡ refused_at r i → Evaluates (refused_at r i) s
+  unfolding evaluated_by
+  after-refusal-at r i f = evaluates (refused_at r i) (rw f)
+
+-- room for the pairs that were counted
+pub prefix : (t : Terms) (bytes out out' : List ℕ) (n : ℕ) → translation_of t bytes (length out) ≡ accepted n → length out' ≡ length out → 2 * n ≤ length out'
+prefix t bytes out out' n e l = omega (arith, (translates t bytes (length out) n e).long)

@@ -21,8 +21,8 @@ EachShort (s ∷ rest) = (length (pairs_by s.kind s) ≤ 20) × EachShort rest
 abbrev pub done_after : ℕ → State → AnswerAt Run
 done_after n s = accepted (record { ending = done; executed = n; state = s })
 
--- From the terms, the bytes, the output, the state and the budget that come in, to the output, the state and the answer that
--- come out.
+-- From the list of filled rows, the bytes, the output, the state and the budget that come in, to the output, the state and
+-- the answer that come out.
 pub record Demand3 (t : Terms) (bytes out : List ℕ) (s : State) (budget : ℕ) (out' : List ℕ) (s' : State) (answer : AnswerAt Run) : Type 0 where
   -- translated: the pairs, two halfwords each and at most 20 a step, stand at the front of the output, and the rest is as it was
   pub written : (n : ℕ) → Translates t bytes (length out) n → out' ≡ halfwords_of (records_of bytes) ++ drop (2 * n) out

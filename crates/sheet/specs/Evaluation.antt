@@ -4,7 +4,6 @@ use Rattle.std.specs.Prelude.{List, ℕ, ◌*◌, length, take}
 use Rattle.laws.specs.AnswerAt.{AnswerAt, accepted, refused, refused_at}
 use Rattle.machine.specs.State.{State}
 use Rattle.steps.specs.declared.Terms.{Terms}
-use Rattle.steps.specs.Meaning.{rows_of}
 use Rattle.runs.specs.Run.{Run, run_of}
 use Rattle.translator.specs.Translation.{translation_of, written_of}
 
@@ -22,7 +21,3 @@ abbrev pub state_left : AnswerAt Run → State → State
 state_left (accepted r) s = r.state
 state_left (refused r) s = s
 state_left (refused_at r i) s = s
-
--- the rows that are left
-abbrev pub rows_left : Terms → List ℕ → List ℕ → State → ℕ → List ℕ
-rows_left t bytes out s budget = rows_of (state_left (evaluation_of t bytes out s budget) s).file

@@ -1,5 +1,4 @@
 pub mod Evaluation
 pub mod Answers
 pub mod Demand3
-pub mod Ranks
 pub mod Promises

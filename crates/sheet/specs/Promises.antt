@@ -1,73 +1,52 @@
 -- Promises beyond the contract; proofs/Promises.antt proves each under its name.
 -- Assumes nothing.
-use Rattle.std.specs.Prelude.{true, List, [], ◌≡◌, ℕ, ◌*◌, ◌%◌, ◌^◌, ◌≤◌, ◌<◌, length, get_or, take}
+use Rattle.std.specs.Prelude.{true, List, ◌≡◌, ℕ, ◌%◌, ◌^◌, ◌≤◌, ◌<◌, length, get_or}
 use Rattle.laws.specs.AnswerAt.{accepted}
 use Rattle.laws.specs.Choice.{either}
 use Rattle.effects.specs.File.{Good}
 use Rattle.machine.specs.State.{State}
 use Rattle.recipes.specs.Pairs.{halfwords_of}
-use Rattle.runs.specs.Run.{run_of}
 use Rattle.steps.specs.declared.Terms.{Terms}
 use Rattle.steps.specs.Faults.{terms, set_by}
 use Rattle.steps.specs.Meaning.{rows_of, row_at}
-use Rattle.steps.specs.Promises.{first_broken, first_unfilled, HasAll, AllowsAll, Larger}
+use Rattle.steps.specs.Promises.{first_broken, HasAll, Within}
 use Rattle.steps.specs.Sets.{in_set}
 use Rattle.steps.specs.Steps.{steps_of}
 use Rattle.translator.specs.Translation.{records_of, translation_by, translation_of, written_by, written_of, Translates}
 use Rattle.sheet.specs.declared.Evaluation.{Evaluation}
 use Rattle.sheet.specs.Answers.{evaluation_answer}
 use Rattle.sheet.specs.Demand3.{Demand3}
-use Rattle.sheet.specs.Evaluation.{evaluated_by, evaluation_of, state_left, rows_left}
-use Rattle.sheet.specs.Ranks.{Ranked}
+use Rattle.sheet.specs.Evaluation.{evaluated_by, evaluation_of, state_left}
 
--- demand 3, for all terms, every list of bytes, every output, every file of 64-bit numbers with every mark, and every budget
+-- demand 3, for every list of filled rows, every list of bytes, every output, every file of 64-bit numbers with every mark,
+-- and every budget
 abbrev pub SheetsHold : Type 0
 SheetsHold =
     (t : Terms) (bytes out : List ℕ) (s : State) (budget : ℕ) → ((k : ℕ) → get_or s.file k 0 < 2 ^ 64)
     → Demand3 t bytes out s budget (written_of t bytes out) (state_left (evaluation_of t bytes out s budget) s) (evaluation_of t bytes out s budget)
 
--- and what leave to read and to set rows comes to, for as many
-abbrev pub RanksHold : Type 0
-RanksHold =
-    (t : Terms) (bytes out : List ℕ) (s : State) (budget : ℕ) → ((k : ℕ) → get_or s.file k 0 < 2 ^ 64)
-    → Ranked t bytes out s budget (state_left (evaluation_of t bytes out s budget) s) (evaluation_of t bytes out s budget)
-
--- the pairs of a translated sheet, run from any start, also past the end, with any budget, from any two files of 32 with any
--- marks: the same ending after as many pairs
-abbrev pub RunsAlike : Type 0
-RunsAlike =
-    (t : Terms) (bytes out : List ℕ) (n start budget : ℕ) (s u : State) → Translates t bytes (length out) n
-    → length s.file ≡ 32 → length u.file ≡ 32
-    → let r = run_of (take (2 * n) (written_of t bytes out)) start s budget in
-    let q = run_of (take (2 * n) (written_of t bytes out)) start u budget in
-    (r.ending ≡ q.ending) × (r.executed ≡ q.executed)
-
--- with every row allowed an evaluation is that of a sheet with a list alone
-abbrev pub EvaluatesAsListed : Type 0
-EvaluatesAsListed =
-    (t : Terms) (bytes out : List ℕ) (s : State) (budget : ℕ) → AllowsAll t
-    → let listed = translation_by (first_unfilled t [] (steps_of bytes)) bytes (length out) in
-    evaluation_of t bytes out s budget ≡ evaluated_by listed (written_by listed (halfwords_of (records_of bytes)) out) s budget
-
--- with every row filled and allowed it is that of a sheet by itself: the only fault of a step is 13
+-- with all rows in the list an evaluation is that of a sheet without a list: the only fault of a step is 13
 abbrev pub EvaluatesAsBefore : Type 0
 EvaluatesAsBefore =
-    (t : Terms) (bytes out : List ℕ) (s : State) (budget : ℕ) → HasAll t.filled → AllowsAll t
+    (t : Terms) (bytes out : List ℕ) (s : State) (budget : ℕ) → HasAll t
     → let before = translation_by (first_broken 0 (steps_of bytes)) bytes (length out) in
     evaluation_of t bytes out s budget ≡ evaluated_by before (written_by before (halfwords_of (records_of bytes)) out) s budget
 
--- what smaller sets let be translated, larger ones evaluate alike
+-- what a smaller list lets be translated, a larger one evaluates alike
 abbrev pub LargerEvaluates : Type 0
 LargerEvaluates =
-    (small large : Terms) (bytes out : List ℕ) (s : State) (budget n : ℕ) → Larger small large → translation_of small bytes (length out) ≡ accepted n
+    (small large : Terms) (bytes out : List ℕ) (s : State) (budget n : ℕ) → Within small large → translation_of small bytes (length out) ≡ accepted n
     → evaluation_of large bytes out s budget ≡ evaluation_of small bytes out s budget
 
 -- marks above row 13 are ignored
 abbrev pub EvaluatesMarksIgnored : Type 0
 EvaluatesMarksIgnored =
-    (filled may_read may_set : ℕ) (bytes out : List ℕ) (s : State) (budget : ℕ)
-    → evaluation_of (terms filled may_read may_set) bytes out s budget
-    ≡ evaluation_of (terms (filled % 2 ^ 14) (may_read % 2 ^ 14) (may_set % 2 ^ 14)) bytes out s budget
+    (filled : ℕ) (bytes out : List ℕ) (s : State) (budget : ℕ)
+    → evaluation_of (terms filled) bytes out s budget ≡ evaluation_of (terms (filled % 2 ^ 14)) bytes out s budget
+
+-- the rows that an evaluation leaves
+abbrev pub rows_left : Terms → List ℕ → List ℕ → State → ℕ → List ℕ
+rows_left t bytes out s budget = rows_of (state_left (evaluation_of t bytes out s budget) s).file
 
 -- no row that nobody filled comes into a sum: of a translated sheet the runs from two files, which hold the same in the rows
 -- of the list, leave the same in every row that is in the list or that a step sets

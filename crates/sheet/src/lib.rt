@@ -2,14 +2,13 @@
 ghost use Rattle.std.specs.Prelude.{◌≡◌};
 ghost use Rattle.translator.specs.Translation.{written_of};
 ghost use Rattle.machine.specs.State.{state};
+ghost use Rattle.steps.specs.Faults.{terms};
 ghost use Rattle.sheet.specs.Answers.{evaluation_answer};
 ghost use Rattle.sheet.specs.Demand3.{Demand3};
 ghost use Rattle.sheet.specs.Evaluation.{evaluation_of, state_left};
-ghost use Rattle.sheet.specs.Ranks.{Ranked};
 
 use insn::Refusal;
 use runs::{Ran, run};
-use steps::Terms;
 use translator::{Translation, translate};
 
 // What an evaluation answers: the run's answer, or the translation's refusal.
@@ -20,23 +19,22 @@ pub enum Evaluation {
     RefusedAt(Refusal, u64),
 }
 
-// Translates a sheet, which comes with these terms, into the output, and runs the pairs that were written on the file and
-// the mark.
+// Translates a sheet into the output, with the list of the rows that were filled beforehand, and runs the pairs that were
+// written on the file and the mark.
 pub fn evaluate(
     sheet: &[u8],
-    terms: Terms,
+    filled: u16,
     out: &mut [u16],
     file: &mut [u64],
     budget: u64,
     mark: &mut bool,
 ) -> Evaluation
-    ensures answer { evaluation_answer result (state file.new mark.new) ≡ evaluation_of terms sheet.now out.old (state file.old mark.old) budget }
-    ensures written { out.new ≡ written_of terms sheet.now out.old }
-    ensures left { state file.new mark.new ≡ state_left (evaluation_of terms sheet.now out.old (state file.old mark.old) budget) (state file.old mark.old) }
-    ensures demand3 { Demand3 terms sheet.now out.old (state file.old mark.old) budget out.new (state file.new mark.new) (evaluation_answer result (state file.new mark.new)) }
-    ensures ranks { Ranked terms sheet.now out.old (state file.old mark.old) budget (state file.new mark.new) (evaluation_answer result (state file.new mark.new)) }
+    ensures answer { evaluation_answer result (state file.new mark.new) ≡ evaluation_of (terms filled) sheet.now out.old (state file.old mark.old) budget }
+    ensures written { out.new ≡ written_of (terms filled) sheet.now out.old }
+    ensures left { state file.new mark.new ≡ state_left (evaluation_of (terms filled) sheet.now out.old (state file.old mark.old) budget) (state file.old mark.old) }
+    ensures demand3 { Demand3 (terms filled) sheet.now out.old (state file.old mark.old) budget out.new (state file.new mark.new) (evaluation_answer result (state file.new mark.new)) }
 {
-    let t = translate(sheet, terms, out);
+    let t = translate(sheet, filled, out);
     match t {
         Translation::Pairs(n) => {
             let ran = run(&out[..2 * n as usize], 0, file, budget, mark);

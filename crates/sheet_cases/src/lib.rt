@@ -3,7 +3,6 @@ use insn::Refusal;
 use machine::Outcome;
 use replay::{digit, field, file_at, same_file};
 use runs::{Ran, run};
-use steps::Terms;
 use translator::Translation;
 
 // What a case answers: the refusal's number or 0, the step's index where it has one, and the pairs executed.
@@ -78,17 +77,17 @@ fn executed(
     ended(run(&out[..end], start, file, budget, mark))
 }
 
-// A sheet translated on its terms, and its pairs run from a start on.
+// A sheet translated with a list of filled rows, and its pairs run from a start on.
 fn called(
     sheet: &[u8],
-    terms: Terms,
+    filled: u16,
     out: &mut [u16],
     start: u64,
     file: &mut [u64],
     budget: u64,
     mark: &mut bool,
 ) -> Answer {
-    let t = translator::translate(sheet, terms, out);
+    let t = translator::translate(sheet, filled, out);
     match t {
         Translation::Pairs(n) => executed(out, n, start, file, budget, mark),
         Translation::Refused(f) => refused(f, 0),
@@ -97,46 +96,32 @@ fn called(
 }
 
 // Whether an answer is the line's.
-fn said(line: &[u8; 1120], a: Answer) -> bool {
-    a.number == field(line, 64, 2)
-        && a.index == field(line, 67, 4)
-        && a.executed == field(line, 72, 4)
+fn said(line: &[u8; 1110], a: Answer) -> bool {
+    a.number == field(line, 54, 2)
+        && a.index == field(line, 57, 4)
+        && a.executed == field(line, 62, 4)
 }
 
 // Whether the output and the file that are left are the line's.
-fn left(line: &[u8; 1120], out: &[u16; 10304], file: [u64; 32]) -> bool {
-    check(out) == field(line, 77, 16) && same_file(file, file_at(line, 607))
-}
-
-// A list of rows on the line.
-fn rows_at(line: &[u8; 1120], at: usize) -> u16 {
-    (field(line, at, 4) % 65536) as u16
-}
-
-// The rows that are filled, those that the sheet may read and those that it may set.
-fn terms_of(line: &[u8; 1120]) -> Terms {
-    Terms {
-        filled: rows_at(line, 10),
-        readable: rows_at(line, 15),
-        settable: rows_at(line, 20),
-    }
+fn left(line: &[u8; 1110], out: &[u16; 10304], file: [u64; 32]) -> bool {
+    check(out) == field(line, 67, 16) && same_file(file, file_at(line, 597))
 }
 
 // Whether a case's sheet is answered as its line says, leaves the output and the file that it says, and the mark as it
 // came: yes where the output's length is odd.
-pub fn agrees(line: &[u8; 1120], sheet: &[u8]) -> bool {
+pub fn agrees(line: &[u8; 1110], sheet: &[u8]) -> bool {
     let mut out = [0x5555u16; 10304];
-    let mut file = file_at(line, 94);
-    let terms = terms_of(line);
-    let start = field(line, 25, 16);
-    let budget = field(line, 47, 16);
+    let mut file = file_at(line, 84);
+    let filled = (field(line, 10, 4) % 65536) as u16;
+    let start = field(line, 15, 16);
+    let budget = field(line, 37, 16);
     let room = (field(line, 5, 4) % 10304) as usize;
-    let words = (field(line, 42, 4) % 33) as usize;
+    let words = (field(line, 32, 4) % 33) as usize;
     let before = room % 2 == 1;
     let mut mark = before;
     let a = called(
         sheet,
-        terms,
+        filled,
         &mut out[..room],
         start,
         &mut file[..words],

@@ -1,6 +1,6 @@
 -- Which rows are filled before a step, and its fault by them.
 -- Assumes nothing.
-use mathlib.Core.Path.{◌≡◌, refl, sym, ◌∙◌, ap, ap₂}
+use mathlib.Core.Path.{◌≡◌, refl, sym, ◌∙◌, ap}
 use mathlib.Core.Bool.{Bool, true, false, not, ◌&&◌, ◌||◌, or-false, or_assoc, or_comm}
 use mathlib.Core.List.{List, [], ◌∷◌}
 use Prim.Native.Nat.{ℕ, suc, ◌+◌, ◌-◌, ◌*◌, ◌%◌, ◌^◌, ◌≤◌, ◌<◌}
@@ -14,13 +14,13 @@ use Rattle.laws.proofs.Never.{never}
 use Rattle.laws.proofs.Tests.{both_true, same_tests}
 use Rattle.steps.specs.declared.Step.{Step}
 use Rattle.steps.specs.declared.Terms.{Terms}
-use Rattle.steps.specs.Faults.{set_by, is_filled, every, is_allowed, Fault, sound, fault, step_fault, fault_after}
+use Rattle.steps.specs.Faults.{set_by, is_filled, every, Fault, sound, fault, step_fault, fault_after}
 use Rattle.steps.specs.Reads.{used_row, reads_by, reads}
 use Rattle.steps.specs.Rules.{Use, unused, up_to, below, uses_of, keeps}
 use Rattle.steps.specs.Sets.{in_set}
 use Rattle.steps.specs.Steps.{step_at, steps_from}
-use Rattle.steps.proofs.Kept.{kept_of, a_small, b-small, c-small}
-use Rattle.steps.proofs.Sets.{marked-or, marked-alone, both_hold}
+use Rattle.steps.proofs.Kept.{a_small, b-small, c-small}
+use Rattle.steps.proofs.Sets.{marked-or, marked-alone}
 use Rattle.steps.proofs.Stepping.{before, before-length}
 
 -- all rows of a list are rows of the sheet
@@ -41,6 +41,10 @@ reads-below s e =
     used-below u.a s.a (used_row u.b s.b c) (a_small s e) (used-below u.b s.b c (b-small s e) (used-below u.c s.c [] (c-small s e) tt))
 
 -- a test that holds of every row holds too where it follows from one that does
+both_hold : (p q : Bool) → p ≡ true → q ≡ true → p && q ≡ true
+both_hold true q e f = f
+both_hold false q e f = e
+
 pub every-within : (p q : ℕ → Bool) (rs : List ℕ) → Below rs → ((r : ℕ) → r < 14 → p r ≡ true → q r ≡ true) → every p rs ≡ true → every q rs ≡ true
 every-within p q [] b f e = refl
 every-within p q (r ∷ rs) b f e =
@@ -51,39 +55,26 @@ every-same : (p q : ℕ → Bool) (rs : List ℕ) → Below rs → ((r : ℕ) �
 every-same p q rs b f =
     same_tests (every p rs) (every q rs) (every-within p q rs b (λ r h e. sym (f r h) ∙ e)) (every-within q p rs b (λ r h e. f r h ∙ e))
 
--- the fault of a step that keeps the rules, by whether its rows are filled and allowed
-abbrev pub by_rows : Bool → Bool → ℕ → Fault
-by_rows filled allowed i = choose (not filled) (fault 16 i) (choose (not allowed) (fault 20 i) sound)
+-- a step that breaks a rule gets 13, whatever it reads; one that keeps them has 16 alone to fear
+pub breaks-rule : (p : ℕ → Bool) (i : ℕ) (s : Step) → keeps s ≡ false → step_fault p i s ≡ fault 13 i
+unfolding step_fault
+breaks-rule p i s e = rw e refl
 
--- a step that breaks a rule gets 13, whatever its rows; one that keeps them has 16 and 20 alone to fear
-module _ (t : Terms) (p : ℕ → Bool) (i : ℕ) (s : Step) where
-  pub breaks-rule : keeps s ≡ false → step_fault t p i s ≡ fault 13 i
-  unfolding step_fault
-  breaks-rule e = rw e refl
+abbrev pub by_reads : Bool → ℕ → Fault
+by_reads all_in i = choose (not all_in) (fault 16 i) sound
 
-  pub by_rows : (filled allowed : Bool) → keeps s ≡ true → every p (reads s) ≡ filled → is_allowed t s ≡ allowed → step_fault t p i s ≡ by_rows filled allowed i
-  unfolding step_fault
-  by_rows filled allowed e f g = λ j. choose (not (e j)) (fault 13 i) (choose (not (f j)) (fault 16 i) (choose (not (g j)) (fault 20 i) sound))
+pub keeps-rule : (p : ℕ → Bool) (i : ℕ) (s : Step) → keeps s ≡ true → step_fault p i s ≡ by_reads (every p (reads s)) i
+unfolding step_fault
+keeps-rule p i s e = rw e refl
 
--- two sets have the same rows of the sheet
-abbrev pub SameBelow : ℕ → ℕ → Type 0
-SameBelow a b = (r : ℕ) → r < 14 → in_set a r ≡ in_set b r
-
--- what a step may do goes by the rows of the sheet alone
-allowed_same : (t u : Terms) (s : Step) → keeps s ≡ true → SameBelow t.readable u.readable → SameBelow t.settable u.settable → is_allowed t s ≡ is_allowed u s
-allowed_same t u s k f g =
-    ap₂ (λ (x y : Bool). x && y) (every-same (in_set t.readable) (in_set u.readable) (reads s) (reads-below s k) f) (g s.target (kept_of s k).target)
-
--- so its fault does
-pub same-fault : (t u : Terms) (p q : ℕ → Bool) (i : ℕ) (s : Step) → ((r : ℕ) → r < 14 → p r ≡ q r)
-    → SameBelow t.readable u.readable → SameBelow t.settable u.settable → step_fault t p i s ≡ step_fault u q i s
-same-fault t u p q i s f g h = go (keeps s) refl
+-- so its fault goes by the rows of the sheet alone
+pub same-fault : (p q : ℕ → Bool) (i : ℕ) (s : Step) → ((r : ℕ) → r < 14 → p r ≡ q r) → step_fault p i s ≡ step_fault q i s
+same-fault p q i s f = go (keeps s) refl
   where
-    go : (k : Bool) → keeps s ≡ k → step_fault t p i s ≡ step_fault u q i s
+    go : (k : Bool) → keeps s ≡ k → step_fault p i s ≡ step_fault q i s
     go true e =
-        by_rows t p i s (every q (reads s)) (is_allowed u s) e (every-same p q (reads s) (reads-below s e) f) (allowed_same t u s e g h)
-        ∙ sym (by_rows u q i s (every q (reads s)) (is_allowed u s) e refl refl)
-    go false e = breaks-rule t p i s e ∙ sym (breaks-rule u q i s e)
+        keeps-rule p i s e ∙ ap (λ (x : Bool). by_reads x i) (every-same p q (reads s) (reads-below s e) f) ∙ sym (keeps-rule q i s e)
+    go false e = breaks-rule p i s e ∙ sym (breaks-rule q i s e)
 
 -- a set has the rows that are filled before a step
 abbrev pub Known : Terms → List Step → ℕ → Type 0
@@ -103,13 +94,13 @@ known_next t earlier set s k r =
 -- the loop that looks for the first fault, with the rows that are filled before step i
 module _ (t : Terms) (s : List ℕ) (n i set : ℕ) (known : Known t (before s i) set) where
   abbrev found : Fault
-  found = step_fault t (in_set set) i (step_at s (24 * i))
+  found = step_fault (in_set set) i (step_at s (24 * i))
 
   abbrev remains : Fault
   remains = fault_after t (before s i) (steps_from s i (n - i))
 
-  by-list : step_fault t (is_filled t (before s i)) i (step_at s (24 * i)) ≡ found
-  by-list = same-fault t t (is_filled t (before s i)) (in_set set) i (step_at s (24 * i)) (λ r h. sym (known r)) (λ r h. refl) (λ r h. refl)
+  by-list : step_fault (is_filled t (before s i)) i (step_at s (24 * i)) ≡ found
+  by-list = same-fault (is_filled t (before s i)) (in_set set) i (step_at s (24 * i)) (λ r h. sym (known r))
 
   pub fault-here : i < n → (m : ℕ) → found ≡ fault m i → remains ≡ fault m i
   unfolding fault_after steps_from
@@ -133,9 +124,9 @@ pub not_sound : {P : Type 0} (n i : ℕ) → fault n i ≡ sound → P
 not_sound n i e = never (cc)
 
 -- a step with no fault keeps the rules
-pub sound-keeps : (t : Terms) (p : ℕ → Bool) (i : ℕ) (s : Step) → step_fault t p i s ≡ sound → keeps s ≡ true
-sound-keeps t p i s h = go (keeps s) refl
+pub sound-keeps : (p : ℕ → Bool) (i : ℕ) (s : Step) → step_fault p i s ≡ sound → keeps s ≡ true
+sound-keeps p i s h = go (keeps s) refl
   where
     go : (k : Bool) → keeps s ≡ k → keeps s ≡ true
     go true e = e
-    go false e = not_sound 13 i (sym (breaks-rule t p i s e) ∙ h)
+    go false e = not_sound 13 i (sym (breaks-rule p i s e) ∙ h)

@@ -6,7 +6,6 @@ pub mod Filling
 pub mod FirstFaults
 pub mod Kept
 pub mod Promises
-pub mod Ranks
 pub mod ReadRows
 pub mod Sample
 pub mod Sets

@@ -1,10 +1,9 @@
 -- The promises of specs/Promises.antt.
 -- Assumes nothing.
-use Rattle.steps.specs.Promises.{ValueReads, TargetAlone, SoundExactly, MarksAbove, AllRowsAllowed, AllRowsFilled, LargerAllows, FilledAlone, EndsEqual, OthersStay, WorkedFaults, WorkedRanks}
+use Rattle.steps.specs.Promises.{ValueReads, TargetAlone, SoundExactly, MarksAbove, AllRowsFilled, LargerAllows, FilledAlone, WorkedFaults}
 use Rattle.steps.proofs.Alike as alike
 use Rattle.steps.proofs.Drawn.{value-reads, taken-other}
 use Rattle.steps.proofs.FirstFaults as first
-use Rattle.steps.proofs.Ranks as ranks
 use Rattle.steps.proofs.Worked as worked
 
 pub value_reads : ValueReads
@@ -19,9 +18,6 @@ sound_exactly = first.sound_exactly
 pub marks_above : MarksAbove
 marks_above = first.marks_above
 
-pub all_rows_allowed : AllRowsAllowed
-all_rows_allowed = first.all_rows_allowed
-
 pub all_rows_filled : AllRowsFilled
 all_rows_filled = first.all_rows_filled
 
@@ -33,12 +29,3 @@ worked_faults = worked.worked_faults
 
 pub filled_alone : FilledAlone
 filled_alone = alike.filled_alone
-
-pub ends_equal : EndsEqual
-ends_equal = ranks.ends_equal
-
-pub others_stay : OthersStay
-others_stay = ranks.others_stay
-
-pub worked_ranks : WorkedRanks
-worked_ranks = worked.worked_ranks

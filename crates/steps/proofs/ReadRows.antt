@@ -1,32 +1,55 @@
--- The set of the rows that a step reads, by the code's columns.
+-- The test of the rows that a step reads, by the code's columns.
 -- Assumes nothing.
 use mathlib.Core.Path.{◌≡◌, refl, sym, ap}
-use Prim.Native.Nat.{ℕ, ◌^◌, ◌<◌}
-use lib.Bits.{bit_or, or_zero_r}
+use mathlib.Core.Bool.{Bool, ◌&&◌, ◌||◌, and-true}
+use Prim.Native.Nat.{ℕ, ◌<◌}
 use lib.Dec.{ltb}
 use lib.ListN.{get_or}
-use Rattle.laws.specs.Choice.{choose}
 use Rattle.steps.specs.declared.Step.{Step}
+use Rattle.steps.specs.Faults.{every}
 use Rattle.steps.specs.Reads.{reads_by}
 use Rattle.steps.specs.Rules.{table}
-use Rattle.steps.specs.Sets.{set_of}
+use Rattle.steps.specs.Sets.{in_set}
 use Rattle.steps.proofs.Columns.{a-limits, b-limits, c-limits}
 use Rattle.steps.proofs.Each.{each}
 
--- the row that a byte names; a byte with one value names none
-abbrev named : ℕ → ℕ → ℕ
-named values r = choose (ltb values 2) 0 (2 ^ r)
+module _ (s : Step) (set : ℕ) where
+  abbrev Tested : ℕ → Type 0
+  Tested k =
+      (ltb (get_or a-limits k 0) 2 || in_set set s.a) && ((ltb (get_or b-limits k 0) 2 || in_set set s.b) && (ltb (get_or c-limits k 0) 2 || in_set set s.c))
+      ≡ every (in_set set) (reads_by k s)
 
-module _ (s : Step) where
-  abbrev Told : ℕ → Type 0
-  Told k = bit_or (named (get_or a-limits k 0) s.a) (bit_or (named (get_or b-limits k 0) s.b) (named (get_or c-limits k 0) s.c)) ≡ set_of (reads_by k s)
+  three : Tested 14
+  unfolding reads_by table
+  three = ap (λ (x : Bool). in_set set s.a && (in_set set s.b && x)) (sym (and-true (in_set set s.c)))
 
-  three : Told 14
-  unfolding reads_by table set_of
-  three = ap (λ (x : ℕ). bit_or (2 ^ s.a) (bit_or (2 ^ s.b) x)) (sym (or_zero_r (2 ^ s.c)))
+  -- a byte with one value is not used
+  reads-tested : (k : ℕ) → k < 15 → Tested k
+  unfolding reads_by table
+  reads-tested = each Tested 15 (
+    refl,
+    (
+      refl,
+      (
+        refl,
+        (
+          refl,
+          (
+            refl,
+            (
+              refl,
+              (
+                refl,
+                (refl, (refl, (refl, (refl, (refl, (refl, (refl, (three, tt)))))))),
+              ),
+            ),
+          ),
+        ),
+      ),
+    ),
+  )
 
-  pub reads-told : (k : ℕ) → k < 15 → Told k
-  unfolding reads_by table set_of
-  reads-told =
-      each Told 15
-      (refl, (refl, (refl, (refl, (refl, (refl, (refl, (refl, (refl, (refl, (refl, (refl, (refl, (refl, (three, tt)))))))))))))))
+-- what is told of each row
+pub reads-told : (s : Step) (set k : ℕ) (a b c : Bool) → k < 15 → a ≡ in_set set s.a → b ≡ in_set set s.b → c ≡ in_set set s.c
+    → (ltb (get_or a-limits k 0) 2 || a) && ((ltb (get_or b-limits k 0) 2 || b) && (ltb (get_or c-limits k 0) 2 || c)) ≡ every (in_set set) (reads_by k s)
+reads-told s set k a b c h p q r = rw (p, q, r) (reads-tested s set k h)

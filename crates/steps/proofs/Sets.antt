@@ -1,8 +1,7 @@
--- Sets of rows: what is in a join, in what two have in common, and in one row alone; sets within others.
+-- Sets of rows: what is in a join, in what two have in common, and in one row alone.
 -- Assumes nothing.
 use mathlib.Core.Path.{◌≡◌, refl, sym, ◌∙◌, ap}
 use mathlib.Core.Bool.{Bool, true, false, ◌&&◌, ◌||◌}
-use mathlib.Core.List.{List, [], ◌∷◌}
 use mathlib.Core.Logic.{◌≢◌}
 use Prim.Native.Nat.{ℕ, zero, suc, ◌/◌, ◌%◌, ◌^◌, ◌<◌}
 use native.Mathlib.Nat.{div-eq_of_lt, div-div-eq-div-mul, pow-suc, mul_comm}
@@ -11,11 +10,9 @@ use lib.Arith.{bin_ind}
 use lib.Bits.{bit_and, bit_or, or_shr, or_mod, and_shr, and_mod}
 use lib.Dec.{eqb, eqb-suc-suc, eqb-zero-suc, eqb-suc-zero}
 use lib.Pow.{pow_pos}
-use borrow.Author.Tests.{eqb-true, eqb-false, eq-eqb, ne_eqb}
+use borrow.Author.Tests.{eqb-false, eq-eqb, ne_eqb}
 use Rattle.laws.proofs.Never.{wrong}
-use Rattle.laws.proofs.Tests.{both_true, same_tests}
-use Rattle.steps.specs.Faults.{every}
-use Rattle.steps.specs.Sets.{in_set, set_of}
+use Rattle.steps.specs.Sets.{in_set}
 
 -- a digit is 0 or 1
 either : (x y : ℕ) → x < 2 → y < 2 → eqb (bit_or x y) 1 ≡ eqb x 1 || eqb y 1
@@ -76,7 +73,7 @@ pub or_left : (p q : Bool) → p ≡ true → p || q ≡ true
 or_left true q e = refl
 or_left false q e = wrong e
 
-pub or_right : (p q : Bool) → q ≡ true → p || q ≡ true
+or_right : (p q : Bool) → q ≡ true → p || q ≡ true
 or_right true q e = refl
 or_right false q e = e
 
@@ -99,10 +96,6 @@ and_none false q e f = wrong f
 never_both : (p q : Bool) → (p ≡ true → q ≡ false) → p && q ≡ false
 never_both true q f = f refl
 never_both false q f = refl
-
-pub both_hold : (p q : Bool) → p ≡ true → q ≡ true → p && q ≡ true
-both_hold true q e f = f
-both_hold false q e f = e
 
 module _ (a b r : ℕ) where
   pub in_left : in_set a r ≡ true → in_set (bit_or a b) r ≡ true
@@ -152,63 +145,3 @@ no_row = bin_ind NoRow (λ f. refl) (λ a ih f. let h : a / 2 ≡ 0 = ih (λ r. 
 
 pub none-common : (a b : ℕ) → ((r : ℕ) → in_set a r ≡ true → in_set b r ≡ false) → bit_and a b ≡ 0
 none-common a b f = no_row (bit_and a b) (λ r. marked-and a b r ∙ never_both (in_set a r) (in_set b r) (f r))
-
--- sets with the same rows are the same
-abbrev SameRows : ℕ → Type 0
-SameRows a = (b : ℕ) → ((r : ℕ) → in_set a r ≡ in_set b r) → a ≡ b
-
-last-digit : (x y : ℕ) → x < 2 → y < 2 → eqb x 1 ≡ eqb y 1 → x ≡ y
-last-digit zero zero h k e = refl
-last-digit zero (suc zero) h k e = wrong e
-last-digit (suc zero) zero h k e = wrong (sym e)
-last-digit (suc zero) (suc zero) h k e = refl
-last-digit zero (suc (suc y)) h k e = absurd (let b : ⊥ = omega arith in b)
-last-digit (suc zero) (suc (suc y)) h k e = absurd (let b : ⊥ = omega arith in b)
-last-digit (suc (suc x)) y h k e = absurd (let b : ⊥ = omega arith in b)
-
-lowest-same : (a b : ℕ) → in_set a 0 ≡ in_set b 0 → a % 2 ≡ b % 2
-unfolding in_set
-lowest-same a b e = let d = last-digit (a / 1 % 2) (b / 1 % 2) (omega arith) (omega arith) e in omega arith
-
-same_rows : (a : ℕ) → SameRows a
-same_rows =
-    bin_ind SameRows (λ b f. sym (no_row b (λ r. sym (f r) ∙ marked-none r)))
-    (λ a ih b f. let h : a / 2 ≡ b / 2 = ih (b / 2) (λ r. half-marked a r ∙ f (suc r) ∙ sym (half-marked b r)) in let l = lowest-same a b (f 0) in omega arith)
-
--- the rows of one set are in another
-abbrev InSet : ℕ → ℕ → Type 0
-InSet a b = (r : ℕ) → in_set a r ≡ true → in_set b r ≡ true
-
-absorbs : (p q : Bool) → (p ≡ true → q ≡ true) → p || q ≡ q
-absorbs true q f = sym (f refl)
-absorbs false q f = refl
-
-joined_in : (a b : ℕ) → InSet a b → bit_or a b ≡ b
-joined_in a b f = same_rows (bit_or a b) b (λ r. marked-or a b r ∙ absorbs (in_set a r) (in_set b r) (f r))
-
-in-joined : (a b : ℕ) → bit_or a b ≡ b → InSet a b
-in-joined a b e r h = ap (λ (x : ℕ). in_set x r) (sym e) ∙ in_left a b r h
-
--- the rows of a list are in a set
-all_in : (set : ℕ) (rs : List ℕ) → InSet (set_of rs) set → every (in_set set) rs ≡ true
-unfolding set_of
-all_in set [] f = refl
-all_in set (r ∷ rs) f =
-    both_hold (in_set set r) (every (in_set set) rs) (f r (in_left (2 ^ r) (set_of rs) r (marked-self r))) (all_in set rs (λ q h. f q (in_right (2 ^ r) (set_of rs) q h)))
-
-in_all : (set : ℕ) (rs : List ℕ) → every (in_set set) rs ≡ true → InSet (set_of rs) set
-unfolding set_of
-in_all set [] e q h = wrong (sym (marked-none q) ∙ h)
-in_all set (r ∷ rs) e q h =
-    let b = both_true (in_set set r) (every (in_set set) rs) e in
-    in_either (2 ^ r) (set_of rs) q (in_set set q ≡ true)
-    (λ g. ap (in_set set) (sym (eqb-true r q (sym (marked-alone r q) ∙ g))) ∙ b.0)
-    (in_all set rs b.1 q)
-    h
-
--- told by one join
-pub within-told : (set : ℕ) (rs : List ℕ) → eqb (bit_or (set_of rs) set) set ≡ every (in_set set) rs
-within-told set rs =
-    same_tests (eqb (bit_or (set_of rs) set) set) (every (in_set set) rs)
-    (λ e. all_in set rs (in-joined (set_of rs) set (eqb-true (bit_or (set_of rs) set) set e)))
-    (λ e. eq-eqb (bit_or (set_of rs) set) set (joined_in (set_of rs) set (in_all set rs e)))

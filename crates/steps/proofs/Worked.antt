@@ -2,7 +2,7 @@
 -- Assumes nothing.
 use mathlib.Core.Path.{refl}
 use Rattle.steps.specs.Faults.{step_fault, fault_after}
-use Rattle.steps.specs.Promises.{WorkedFaults, WorkedRanks}
+use Rattle.steps.specs.Promises.{WorkedFaults}
 use Rattle.steps.specs.Reads.{reads_by}
 use Rattle.steps.specs.Rules.{table, keeps_rows, keeps_numbers, keeps}
 use Rattle.steps.specs.Sets.{in_set}
@@ -25,26 +25,4 @@ worked_faults =
       set-long-before = refl;
       c-not-filled = refl;
       c-filled = refl;
-    }
-
-pub worked_ranks : WorkedRanks
-unfolding fault_after step_fault keeps keeps_rows keeps_numbers reads_by table in_set
-worked_ranks =
-    record {
-      as-allowed = refl;
-      b-not-readable = refl;
-      target-not-settable = refl;
-      sets-exchanged = refl;
-      set-row-needs-leave = refl;
-      set-row-with-leave = refl;
-      own-target = refl;
-      c-not-readable = refl;
-      constant-reads-nothing = refl;
-      high-marks = refl;
-      no_steps = refl;
-      thirteen-before-twenty = refl;
-      sixteen-before-twenty = refl;
-      twenty-then-sixteen = refl;
-      twenty-then-thirteen = refl;
-      thirteen-then-twenty = refl;
     }

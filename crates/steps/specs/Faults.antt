@@ -1,4 +1,4 @@
--- What is wrong with a sheet's steps: document 01, 'Refusals from the input', and document 02, F-6 and F-14.
+-- What is wrong with a sheet's steps: document 01, 'Refusals from the input', and document 02, F-6.
 -- Assumes nothing.
 use Rattle.std.specs.Prelude.{Bool, true, false, not, List, [], ◌∷◌, ◌≡◌, ℕ, ◌%◌, eqb, ltb, length}
 use Rattle.laws.specs.AnswerAt.{AnswerAt, refused, refused_at}
@@ -9,9 +9,9 @@ use Rattle.steps.specs.Rules.{keeps}
 use Rattle.steps.specs.Reads.{reads}
 use Rattle.steps.specs.Sets.{in_set}
 
--- what a translation comes with: the sets of the rows that were filled beforehand, that it may read, and that it may set
-abbrev pub terms : ℕ → ℕ → ℕ → Terms
-terms filled may_read may_set = record { filled = filled; readable = may_read; settable = may_set }
+-- what a translation comes with: the set of the rows that were filled beforehand
+abbrev pub terms : ℕ → Terms
+terms filled = record { filled = filled }
 
 -- row r is the target of one of the steps
 abbrev pub set_by : List Step → ℕ → Bool
@@ -36,15 +36,6 @@ FilledAfter t earlier (s ∷ steps) = (every (is_filled t earlier) (reads s) ≡
 abbrev pub AllFilled : Terms → List Step → Type 0
 AllFilled t steps = FilledAfter t [] steps
 
--- a step reads rows that may be read, also where an earlier step set them, and its target may be set
-abbrev pub is_allowed : Terms → Step → Bool
-is_allowed t s = both (every (in_set t.readable) (reads s)) (in_set t.settable s.target)
-
--- every step of a sheet does what it may
-abbrev pub AllAllowed : Terms → List Step → Type 0
-AllAllowed t [] = Unit {0}
-AllAllowed t (s ∷ steps) = (is_allowed t s ≡ true) × AllAllowed t steps
-
 -- no fault; or a refusal's number and the index of its step
 pub data Fault : Type 0 where
   sound : Fault
@@ -55,18 +46,17 @@ abbrev pub first_of : Fault → Fault → Fault
 first_of sound later = later
 first_of (fault n i) later = fault n i
 
--- the fault of step i: it breaks a rule; it reads a row that is not filled before it; it reads or sets one that it may not
-unfoldable pub step_fault : Terms → (ℕ → Bool) → ℕ → Step → Fault
-step_fault t filled i s =
+-- the fault of step i: it breaks a rule; it reads a row that is not filled before it
+unfoldable pub step_fault : (ℕ → Bool) → ℕ → Step → Fault
+step_fault filled i s =
     choose (not (keeps s)) (fault 13 i)
     (choose (not (every filled (reads s))) (fault 16 i)
-    (choose (not (is_allowed t s)) (fault 20 i)
-    sound))
+    sound)
 
 -- the first fault of steps, where `earlier` are the steps before them; a step's index is how many steps are before it
 unfoldable pub fault_after : Terms → List Step → List Step → Fault
 fault_after t earlier [] = sound
-fault_after t earlier (s ∷ steps) = let later = fault_after t (s ∷ earlier) steps in first_of (step_fault t (is_filled t earlier) (length earlier) s) later
+fault_after t earlier (s ∷ steps) = let later = fault_after t (s ∷ earlier) steps in first_of (step_fault (is_filled t earlier) (length earlier) s) later
 
 -- the first fault of a whole sheet
 abbrev pub first_fault : Terms → List Step → Fault

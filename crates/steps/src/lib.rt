@@ -18,11 +18,8 @@ pub struct Step {
     pub high: u64,
 }
 
-// What a translation comes with, three sets with row r at bit r: the rows that were filled beforehand, those that the
-// sheet may read, and those that it may set.
+// What a translation comes with: the rows that were filled beforehand, row r at bit r.
 #[derive(Drop)]
 pub struct Terms {
     pub filled: u16,
-    pub readable: u16,
-    pub settable: u16,
 }

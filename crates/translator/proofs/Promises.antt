@@ -1,21 +1,18 @@
 -- The promises of specs/Promises.antt.
 -- Assumes nothing.
 use mathlib.Core.Path.{◌≡◌, sym, ◌∙◌, ap}
-use mathlib.Core.List.{List, []}
-use Prim.Native.Nat.{ℕ, ◌%◌, ◌^◌}
 use lib.ListN.{length}
+use Prim.Native.Nat.{ℕ}
 use Rattle.laws.proofs.Never.{never}
 use Rattle.insn.proofs.Promises.{numbered_apart}
 use Rattle.translator.specs.declared.Translation.TheVariants.{Pairs, Refused, RefusedAt}
 use Rattle.laws.specs.AnswerAt.{AnswerAt}
 use Rattle.recipes.specs.Pairs.{pairs_of, halfwords_of}
-use Rattle.steps.specs.declared.Terms.{Terms}
-use Rattle.steps.specs.Faults.{terms, Fault, first_fault}
-use Rattle.steps.specs.Promises.{first_broken, first_unfilled}
+use Rattle.steps.specs.Faults.{Fault}
 use Rattle.steps.specs.Steps.{steps_of}
 use Rattle.steps.proofs.FirstFaults.{sound_exactly}
 use Rattle.steps.proofs.Promises as steps
-use Rattle.translator.specs.Promises.{Exactly, GoesBy, AsListed, AsBefore, LargerTranslates, MarksIgnored, AllWritten, HalfShort, OutputKept, TranslationsApart}
+use Rattle.translator.specs.Promises.{Exactly, AsBefore, LargerTranslates, MarksIgnored, AllWritten, HalfShort, OutputKept, TranslationsApart}
 use Rattle.translator.specs.Translation.{records_of, translation_by, written_by}
 use Rattle.recipes.proofs.ByKind.{sheet-written}
 use Rattle.recipes.proofs.Halves.{half-few}
@@ -25,30 +22,23 @@ use Rattle.recipes.proofs.Writes.{written-length}
 pub exactly : Exactly
 exactly t bytes room n = (translates t bytes room n, translated t bytes room n)
 
--- an equal first fault gives an equal answer and output
-goes_by : (t : Terms) (bytes out : List ℕ) (first : Fault) → first_fault t (steps_of bytes) ≡ first → GoesBy t bytes out first
-goes_by t bytes out first e =
-    let a = ap (λ (f : Fault). translation_by f bytes (length out)) e in
-    (a, ap (λ (x : AnswerAt ℕ). written_by x (halfwords_of (records_of bytes)) out) a)
-
-pub as_listed : AsListed
-as_listed t bytes out all = goes_by t bytes out (first_unfilled t [] (steps_of bytes)) (steps.all_rows_allowed t (steps_of bytes) all)
-
 pub as_before : AsBefore
-as_before t bytes out filled allowed = goes_by t bytes out (first_broken 0 (steps_of bytes)) (steps.all_rows_filled t (steps_of bytes) filled allowed)
-
-pub marks_ignored : MarksIgnored
-marks_ignored filled may_read may_set bytes out =
-    goes_by (terms filled may_read may_set) bytes out (first_fault (terms (filled % 2 ^ 14) (may_read % 2 ^ 14) (may_set % 2 ^ 14)) (steps_of bytes))
-    (steps.marks_above filled may_read may_set (steps_of bytes))
+as_before t bytes out all =
+    let e = ap (λ (f : Fault). translation_by f bytes (length out)) (steps.all_rows_filled t (steps_of bytes) all) in
+    (e, ap (λ (a : AnswerAt ℕ). written_by a (halfwords_of (records_of bytes)) out) e)
 
 pub larger_translates : LargerTranslates
 larger_translates small large bytes out n w e =
     let a = translates small bytes (length out) n e in
-    let f = steps.larger_allows small large (steps_of bytes) w ((sound_exactly small (steps_of bytes)).1 (record { keep = a.keep; filled = a.filled; allowed = a.allowed })) in
+    let f = steps.larger_allows small large (steps_of bytes) w ((sound_exactly small (steps_of bytes)).1 (a.keep, a.filled)) in
     let b = (sound_exactly large (steps_of bytes)).0 f in
-    let l = translated large bytes (length out) n (record { whole = a.whole; few = a.few; keep = a.keep; filled = b.filled; allowed = b.allowed; count = a.count; long = a.long }) in
+    let l = translated large bytes (length out) n (record { whole = a.whole; few = a.few; keep = a.keep; filled = b.1; count = a.count; long = a.long }) in
     (l, ap (λ (x : AnswerAt ℕ). written_by x (halfwords_of (records_of bytes)) out) (l ∙ sym e))
+
+pub marks_ignored : MarksIgnored
+marks_ignored filled bytes out =
+    let e = ap (λ (f : Fault). translation_by f bytes (length out)) (steps.marks_above filled (steps_of bytes)) in
+    (e, ap (λ (a : AnswerAt ℕ). written_by a (halfwords_of (records_of bytes)) out) e)
 
 pub all_written : AllWritten
 all_written steps k = written-length (pairs_of steps) (sheet-written steps k)

@@ -75,7 +75,7 @@ module _ (t : Terms) (s : List ℕ) (room n : ℕ) where
           let p : n ≡ count = cc in
           let q = ltb-false room (2 * count) e in
           let a = (sound_exactly t (steps_of s)).0 k in
-          record { whole = w; few = f; keep = a.keep; filled = a.filled; allowed = a.allowed; count = p; long = omega arith }
+          record { whole = w; few = f; keep = a.0; filled = a.1; count = p; long = omega arith }
 
       by3 : (x : Fault) → first_fault t (steps_of s) ≡ x → length s % 24 ≡ 0 → length s ≤ 6144 → unless_fault x answer ≡ accepted n → Translates t s room n
       by3 sound e w f g = by4 (ltb room (2 * count)) refl w f e g
@@ -95,7 +95,7 @@ module _ (t : Terms) (s : List ℕ) (room n : ℕ) where
   -- and if
   pub translated : Translates t s room n → translation_of t s room ≡ accepted n
   translated a =
-      all t s room a.whole a.few ((sound_exactly t (steps_of s)).1 (record { keep = a.keep; filled = a.filled; allowed = a.allowed })) (rw (← a.count) a.long) ∙ ap accepted (sym a.count)
+      all t s room a.whole a.few ((sound_exactly t (steps_of s)).1 (a.keep, a.filled)) (rw (← a.count) a.long) ∙ ap accepted (sym a.count)
 
 -- the output after each case
 module _ (t : Terms) (s out : List ℕ) where

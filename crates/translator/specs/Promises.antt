@@ -1,11 +1,11 @@
 -- Promises beyond the contract; proofs/Promises.antt proves each under its name.
 -- Assumes nothing.
-use Rattle.std.specs.Prelude.{List, [], ◌≢◌, ◌≡◌, ℕ, ◌*◌, ◌%◌, ◌^◌, ◌≤◌, length}
+use Rattle.std.specs.Prelude.{List, ◌≢◌, ◌≡◌, ℕ, ◌*◌, ◌%◌, ◌^◌, ◌≤◌, length}
 use Rattle.laws.specs.AnswerAt.{accepted}
 use Rattle.steps.specs.declared.Step.{Step}
 use Rattle.steps.specs.declared.Terms.{Terms}
-use Rattle.steps.specs.Faults.{terms, Fault}
-use Rattle.steps.specs.Promises.{first_broken, first_unfilled, HasAll, AllowsAll, Larger}
+use Rattle.steps.specs.Faults.{terms}
+use Rattle.steps.specs.Promises.{first_broken, HasAll, Within}
 use Rattle.steps.specs.Rules.{AllKeep}
 use Rattle.steps.specs.Steps.{steps_of}
 use Rattle.translator.specs.declared.Translation.{Translation}
@@ -19,33 +19,25 @@ Exactly =
     (t : Terms) (bytes : List ℕ) (room n : ℕ)
     → (translation_of t bytes room ≡ accepted n → Translates t bytes room n) × (Translates t bytes room n → translation_of t bytes room ≡ accepted n)
 
--- answer and output are those that go by this first fault
-abbrev pub GoesBy : Terms → List ℕ → List ℕ → Fault → Type 0
-GoesBy t bytes out first =
-    let answer = translation_by first bytes (length out) in
-    (translation_of t bytes (length out) ≡ answer) × (written_of t bytes out ≡ written_by answer (halfwords_of (records_of bytes)) out)
-
--- with every row allowed they are those of a sheet with a list alone: the only faults of a step are 13 and 16
-abbrev pub AsListed : Type 0
-AsListed = (t : Terms) (bytes out : List ℕ) → AllowsAll t → GoesBy t bytes out (first_unfilled t [] (steps_of bytes))
-
--- with every row filled and allowed they are those of a sheet by itself: the only fault of a step is 13
+-- with all rows in the list answer and output are those of a sheet without a list: the only fault of a step is 13
 abbrev pub AsBefore : Type 0
-AsBefore = (t : Terms) (bytes out : List ℕ) → HasAll t.filled → AllowsAll t → GoesBy t bytes out (first_broken 0 (steps_of bytes))
+AsBefore =
+    (t : Terms) (bytes out : List ℕ) → HasAll t
+    → let before = translation_by (first_broken 0 (steps_of bytes)) bytes (length out) in
+    (translation_of t bytes (length out) ≡ before) × (written_of t bytes out ≡ written_by before (halfwords_of (records_of bytes)) out)
 
--- larger sets translate, to the same pairs, all that smaller ones do
+-- a larger list translates, to the same pairs, all that a smaller one does
 abbrev pub LargerTranslates : Type 0
 LargerTranslates =
-    (small large : Terms) (bytes out : List ℕ) (n : ℕ) → Larger small large → translation_of small bytes (length out) ≡ accepted n
+    (small large : Terms) (bytes out : List ℕ) (n : ℕ) → Within small large → translation_of small bytes (length out) ≡ accepted n
     → (translation_of large bytes (length out) ≡ accepted n) × (written_of large bytes out ≡ written_of small bytes out)
 
 -- marks above row 13 are ignored
 abbrev pub MarksIgnored : Type 0
 MarksIgnored =
-    (filled may_read may_set : ℕ) (bytes out : List ℕ)
-    → let t = terms filled may_read may_set in
-    let low = terms (filled % 2 ^ 14) (may_read % 2 ^ 14) (may_set % 2 ^ 14) in
-    (translation_of t bytes (length out) ≡ translation_of low bytes (length out)) × (written_of t bytes out ≡ written_of low bytes out)
+    (filled : ℕ) (bytes out : List ℕ)
+    → (translation_of (terms filled) bytes (length out) ≡ translation_of (terms (filled % 2 ^ 14)) bytes (length out))
+    × (written_of (terms filled) bytes out ≡ written_of (terms (filled % 2 ^ 14)) bytes out)
 
 -- every record of steps that keep the rules is written: two halfwords each
 abbrev pub AllWritten : Type 0

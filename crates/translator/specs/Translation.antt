@@ -1,5 +1,5 @@
 -- What the translator answers, and what it leaves in the output: document 01, 'Sum sheet' and the refusals; document 02,
--- F-6 and F-14.
+-- F-6.
 -- Assumes nothing.
 use Rattle.std.specs.Prelude.{List, ◌++◌, ◌≡◌, ℕ, ◌*◌, ◌%◌, ◌≤◌, ltb, length, drop}
 use Rattle.laws.specs.AnswerAt.{AnswerAt, accepted, refused, refused_at}
@@ -7,7 +7,7 @@ use Rattle.laws.specs.Choice.{choose}
 use Rattle.insn.specs.declared.Insn.{Insn}
 use Rattle.recipes.specs.Pairs.{pairs_of, halfwords_of}
 use Rattle.steps.specs.declared.Terms.{Terms}
-use Rattle.steps.specs.Faults.{AllFilled, AllAllowed, Fault, first_fault, unless_refused}
+use Rattle.steps.specs.Faults.{AllFilled, Fault, first_fault, unless_refused}
 use Rattle.steps.specs.Rules.{AllKeep}
 use Rattle.steps.specs.Steps.{steps_of}
 
@@ -37,13 +37,12 @@ written_by (refused_at r i) code out = out
 abbrev pub written_of : Terms → List ℕ → List ℕ → List ℕ
 written_of t bytes out = written_by (translation_of t bytes (length out)) (halfwords_of (records_of bytes)) out
 
--- The bytes are 0 to 256 whole steps that keep the step rules, read filled rows, and read and set only what they may; their
--- pairs are n, and the output has two halfwords for each.
+-- The bytes are 0 to 256 whole steps that keep the step rules and read filled rows, their pairs are n, and the output has
+-- two halfwords for each.
 pub record Translates (t : Terms) (bytes : List ℕ) (room n : ℕ) : Type 0 where
   pub whole : length bytes % 24 ≡ 0
   pub few : length bytes ≤ 6144
   pub keep : AllKeep (steps_of bytes)
   pub filled : AllFilled t (steps_of bytes)
-  pub allowed : AllAllowed t (steps_of bytes)
   pub count : n ≡ length (records_of bytes)
   pub long : 2 * n ≤ room

@@ -1,5 +1,6 @@
 // Sum sheets written as pairs.
 ghost use Rattle.std.specs.Prelude.{◌≡◌, length};
+ghost use Rattle.steps.specs.Faults.{terms};
 ghost use Rattle.translator.specs.Answers.{translation_answer};
 ghost use Rattle.translator.specs.Translation.{translation_of, written_of};
 
@@ -16,10 +17,11 @@ pub enum Translation {
     RefusedAt(Refusal, u64),
 }
 
-// Translates a sheet, which comes with these terms, into the output. A refusal writes nothing.
-pub fn translate(sheet: &[u8], terms: Terms, out: &mut [u16]) -> Translation
-    ensures answer { translation_answer result ≡ translation_of terms sheet.now (length out.old) }
-    ensures written { out.new ≡ written_of terms sheet.now out.old }
+// Translates a sheet into the output, where row r was filled beforehand if bit r of the list is set. A refusal writes
+// nothing.
+pub fn translate(sheet: &[u8], filled: u16, out: &mut [u16]) -> Translation
+    ensures answer { translation_answer result ≡ translation_of (terms filled) sheet.now (length out.old) }
+    ensures written { out.new ≡ written_of (terms filled) sheet.now out.old }
 {
     if sheet.len() % 24 != 0 {
         return Translation::Refused(Refusal::SheetLength);
@@ -28,7 +30,7 @@ pub fn translate(sheet: &[u8], terms: Terms, out: &mut [u16]) -> Translation
         return Translation::Refused(Refusal::SheetLength);
     }
     let n = sheet.len() / 24;
-    let found = measure(sheet, n, terms);
+    let found = measure(sheet, n, Terms { filled });
     match found {
         Measured::Faulty(cause, step) => Translation::RefusedAt(cause, step),
         Measured::Pairs(pairs) => {

@@ -6,7 +6,7 @@ use lib.Seq.{length-take-le}
 use borrow.Author.Rules.{rules}
 use Rattle.steps.specs.Faults.{terms}
 use Rattle.translator.specs.Answers.{translation_answer}
-use Rattle.sheet.proofs.Calls.{prefix}
+use Rattle.sheet.proofs.Whole.{prefix}
 use Rattle.capi.specs.Results.{mark_in}
 use Rattle.capi.proofs.Evaluating.{as_byte, after_run, after-refusal, after-refusal-at}
 use Rattle.capi.proofs.bodlixo_evaluate.Statement.{statement}
@@ -17,21 +17,21 @@ mul-bodlixo-run c =
     let a = c.before.before.before.before.before.before.before.before.before.before.args in
     let t = c.before.before.before.before.before.translate in
     let e = sym t.ensures.0 ∙ ap translation_answer c.before.translated.given.1 in
-    omega (arith, prefix (terms a.filled a.may_read a.may-set) a.sheet.now a.out.now t.new.1.1.0 _ e t.auto.1.1.0, c.before.before.before.before.before.before.before.before.before.before.well-formed.1.1.1.1.0.0)
+    omega (arith, prefix (terms a.filled) a.sheet.now a.out.now t.new.1.1.0 _ e t.auto.1.1.0, c.before.before.before.before.before.before.before.before.before.before.well-formed.1.1.0.0)
 
 slice-reshare-prefix-bodlixo-run : tie.Need-slice-reshare-prefix-bodlixo-run
 slice-reshare-prefix-bodlixo-run c =
     let a = c.before.before.before.before.before.before.before.before.before.before.args in
     let t = c.before.before.before.before.before.translate in
     let e = sym t.ensures.0 ∙ ap translation_answer c.before.translated.given.1 in
-    prefix (terms a.filled a.may_read a.may-set) a.sheet.now a.out.now t.new.1.1.0 _ e t.auto.1.1.0
+    prefix (terms a.filled) a.sheet.now a.out.now t.new.1.1.0 _ e t.auto.1.1.0
 
 slice-aggregate-bodlixo-run : tie.Need-slice-aggregate-bodlixo-run
 slice-aggregate-bodlixo-run c =
     let a = c.before.before.before.before.before.before.before.before.before.before.before.args in
     let t = c.before.before.before.before.before.before.translate in
     let e = sym t.ensures.0 ∙ ap translation_answer c.before.before.translated.given.1 in
-    sym (length-take-le _ _ (prefix (terms a.filled a.may_read a.may-set) a.sheet.now a.out.now t.new.1.1.0 _ e t.auto.1.1.0))
+    sym (length-take-le _ _ (prefix (terms a.filled) a.sheet.now a.out.now t.new.1.1.0 _ e t.auto.1.1.0))
 
 returns : tie.Need-returns
 returns c =
@@ -41,7 +41,7 @@ returns c =
     let a = s.before.before.before.args in
     let e = sym t.ensures.0 ∙ ap translation_answer b.translated.given.1 in
     let r = c.before.before.bodlixo-run.ensures in
-    after_run (terms a.filled a.may_read a.may-set) a.sheet.now a.out.now a.file.now a.mark.now a.budget (λ i. omega (arith, s.slice-known2.given i)) _ t.ensures.1 _ _ _ _ _ e r.0 r.1.0 r.1.1.0 r.1.1.1
+    after_run (terms a.filled) a.sheet.now a.out.now a.file.now a.mark.now a.budget (λ i. omega (arith, s.slice-known2.given i)) _ t.ensures.1 _ _ _ _ _ e r.0 r.1.0 r.1.1.0 r.1.1.1
 
 returns-2 : tie.Need-returns-2
 returns-2 c =
@@ -50,7 +50,7 @@ returns-2 c =
     let s = b.before.before.before.before.before.before in
     let a = s.before.before.before.args in
     let e = sym t.ensures.0 ∙ ap translation_answer b.translated2.given.1 in
-    after-refusal (terms a.filled a.may_read a.may-set) a.sheet.now a.out.now a.file.now a.mark.now a.budget (λ i. omega (arith, s.slice-known2.given i)) _ t.ensures.1 _ (as_byte (mark_in a.mark.now)) _ _ e c.refusal-number.ensures
+    after-refusal (terms a.filled) a.sheet.now a.out.now a.file.now a.mark.now a.budget (λ i. omega (arith, s.slice-known2.given i)) _ t.ensures.1 _ (as_byte (mark_in a.mark.now)) _ _ e c.refusal-number.ensures
 
 returns-3 : tie.Need-returns-3
 returns-3 c =
@@ -59,7 +59,7 @@ returns-3 c =
     let s = b.before.before.before.before.before.before in
     let a = s.before.before.before.args in
     let e = sym t.ensures.0 ∙ ap translation_answer b.translated3.given.1 in
-    after-refusal-at (terms a.filled a.may_read a.may-set) a.sheet.now a.out.now a.file.now a.mark.now a.budget (λ i. omega (arith, s.slice-known2.given i)) _ t.ensures.1 _ (as_byte (mark_in a.mark.now)) _ _ _ e c.refusal-number2.ensures
+    after-refusal-at (terms a.filled) a.sheet.now a.out.now a.file.now a.mark.now a.budget (λ i. omega (arith, s.slice-known2.given i)) _ t.ensures.1 _ (as_byte (mark_in a.mark.now)) _ _ _ e c.refusal-number2.ensures
 
 pub bodlixo_evaluate_spec : {M : Type 1} → statement M
 bodlixo_evaluate_spec =

@@ -8,7 +8,7 @@ use Rattle.sheet_test.proofs.replayed.Statement.{statement}
 use Rattle.sheet_test.proofs.replayed.Tie as tie
 
 abbrev invariant-loop : tie.invariant-loop
-invariant-loop t₀ line₀ n₀ t line n = (length line ≡ 1120) × (n ≤ 1000000)
+invariant-loop t₀ line₀ n₀ t line n = (length line ≡ 1110) × (n ≤ 1000000)
 
 abbrev decreases-loop : tie.decreases-loop
 decreases-loop t₀ line₀ n₀ t line n = 1000000 - n

@@ -6,7 +6,7 @@ use lib.ListN.{length}
 use borrow.Author.Rules.{rules}
 use Rattle.laws.specs.AnswerAt.{accepted}
 use Rattle.measure.specs.Own.{measured_answer}
-use Rattle.steps.specs.Faults.{first_fault}
+use Rattle.steps.specs.Faults.{terms, first_fault}
 use Rattle.steps.specs.Steps.{steps_of}
 use Rattle.steps.proofs.FirstFaults.{sound_exactly}
 use Rattle.steps.proofs.Stepping.{each_keeps}
@@ -18,14 +18,14 @@ use Rattle.translator.proofs.translate.Tie as tie
 returns : tie.Need-returns
 returns c =
     let a = c.before.before.before.args in
-    let t = a.terms in
+    let t = terms a.filled in
     let e = uneven t a.sheet.now (length a.out.now) c.if1.true in
     (sym e, sym (kept t a.sheet.now a.out.now 12 e))
 
 returns-2 : tie.Need-returns-2
 returns-2 c =
     let a = c.before.before.before.before.args in
-    let t = a.terms in
+    let t = terms a.filled in
     let e = overlong t a.sheet.now (length a.out.now) (omega (arith, c.before.if1.false)) c.if2.true in
     (sym e, sym (kept t a.sheet.now a.out.now 12 e))
 
@@ -33,7 +33,7 @@ returns-3 : tie.Need-returns-3
 returns-3 c =
     let b = c.before.before.before.before in
     let a = b.before.before.before.before.before.args in
-    let t = a.terms in
+    let t = terms a.filled in
     let s = a.sheet.now in
     let m = told-count _ (length (records_of s)) _ (sym (ap measured_answer c.before.before.found2.given.1) ∙ b.measure.ensures) in
     let e = short t s (length a.out.now) (omega (arith, b.before.before.if1.false)) (omega (arith, b.before.if2.false)) m.0 (omega (arith, m.1, c.if3.true)) in
@@ -44,15 +44,15 @@ put-steps-requires c κs =
     let b = c.before.before.before.before.before in
     let a = b.before.before.before.before.before.args in
     let s = a.sheet.now in
-    let t = a.terms in
+    let t = terms a.filled in
     let m = told-count (first_fault t (steps_of s)) (length (records_of s)) _ (sym (ap measured_answer c.before.before.before.found2.given.1) ∙ b.measure.ensures) in
-    ((omega arith, omega (arith, b.before.if2.false)), each_keeps s _ ((sound_exactly t (steps_of s)).0 m.0).keep)
+    ((omega arith, omega (arith, b.before.if2.false)), each_keeps s _ ((sound_exactly t (steps_of s)).0 m.0).0)
 
 returns-4 : tie.Need-returns-4
 returns-4 c =
     let b = c.before.before.before in
     let a = b.before.before.before.before.before.args in
-    let t = a.terms in
+    let t = terms a.filled in
     let s = a.sheet.now in
     let f = told-fault _ (length (records_of s)) _ _ (sym (ap measured_answer c.before.found.given.1) ∙ b.measure.ensures) in
     let e = breaks t s (length a.out.now) (omega (arith, b.before.before.if1.false)) (omega (arith, b.before.if2.false)) _ _ f in
@@ -62,7 +62,7 @@ returns-5 : tie.Need-returns-5
 returns-5 c =
     let b = c.before.before.before.before.before.before.before.before in
     let a = b.before.before.before.before.before.args in
-    let t = a.terms in
+    let t = terms a.filled in
     let s = a.sheet.now in
     let m = told-count _ (length (records_of s)) _ (sym (ap measured_answer c.before.before.before.before.before.before.found2.given.1) ∙ b.measure.ensures) in
     let e = all t s (length a.out.now) (omega (arith, b.before.before.if1.false)) (omega (arith, b.before.if2.false)) m.0 (omega (arith, m.1, c.before.before.before.before.if3.false)) in

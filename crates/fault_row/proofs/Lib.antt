@@ -1,4 +1,0 @@
-pub mod Places
-pub mod Finding
-pub mod Walking
-pub mod Promises

@@ -1,4 +1,0 @@
-pub mod Rows
-pub mod Answers
-pub mod Promises
-pub mod Own
