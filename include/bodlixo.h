@@ -1,4 +1,4 @@
-/* Bodlixo: ARM vector (NEON) instruction pairs. Link with the archive that `rt staticlib capi` writes. */
+/* Bodlixo: ARM vector (NEON) instruction pairs. Link with the archive that `tools/build capi` writes. */
 #ifndef BODLIXO_H
 #define BODLIXO_H
 

@@ -1,4 +1,6 @@
 // The place L:imm6 of a shift amount. Once a number is known to be in range, it and its place are 8-bit numbers.
+#![tactic(auto)]
+
 ghost use Rattle.std.specs.Prelude.{◌≡◌, ◌+◌, ◌-◌, ◌*◌, ◌<◌, ◌≤◌, eqb, ltb, pos};
 ghost use Rattle.laws.specs.Answer.{accepted, refused};
 ghost use Rattle.laws.specs.Choice.{choose};

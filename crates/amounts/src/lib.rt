@@ -1,4 +1,6 @@
 // Shift amounts: what L and imm6 stand for.
+#![tactic(auto)]
+
 ghost use Rattle.std.specs.Prelude.{◌≡◌, ◌-◌, ◌≤◌};
 ghost use Rattle.amounts.specs.Shifts.{is_escape, right_end, left_start, amount_of, size_code};
 ghost use Rattle.insn.specs.Widths.{bits_at};

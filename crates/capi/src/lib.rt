@@ -1,4 +1,6 @@
 // The C boundary; include/bodlixo.h has the declarations.
+#![tactic(auto)]
+
 ghost use Rattle.std.specs.Prelude.{◌≡◌, ℕ, length};
 ghost use Rattle.editions.specs.Editions.{edition_of};
 ghost use Rattle.decode.specs.Editions.{reading_in};
@@ -124,7 +126,7 @@ pub extern "C" fn bodlixo_evaluate(
     executed: &mut u64,
     at: &mut u64,
 ) -> u32
-    ensures* code { λ r. ⌜ r ≡ code_at (λ (r : Run). end_code r.ending) (evaluation_of (terms filled) sheet.now out.old (lent file.old mark.old) budget) ⌝ }
+    ensures code { result ≡ code_at (λ (r : Run). end_code r.ending) (evaluation_of (terms filled) sheet.now out.old (lent file.old mark.old) budget) }
     ensures executed { executed.new ≡ executed_or0 (evaluation_of (terms filled) sheet.now out.old (lent file.old mark.old) budget) }
     ensures at { at.new ≡ count_or_place (translation_of (terms filled) sheet.now (length out.old)) }
     ensures out { out.new ≡ written_of (terms filled) sheet.now out.old }

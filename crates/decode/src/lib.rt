@@ -1,4 +1,6 @@
 // Reading a pair of halfwords.
+#![tactic(auto)]
+
 ghost use Rattle.std.specs.Prelude.{◌≡◌};
 ghost use Rattle.readings.specs.Answers.{reading_answer};
 ghost use Rattle.decode.specs.Editions.{is_fused, is_withheld, reading_in};
@@ -10,7 +12,7 @@ use read_registers::{diff, same3};
 use readings::Reading;
 
 // The families of document 01, 'Four families'.
-#[derive(Drop)]
+#[derive(Clone, Copy)]
 pub enum Family {
     ThreeSame,
     ThreeDifferent,

@@ -1,4 +1,6 @@
 // A record as text in a lent buffer: its name, and its operands joined by commas.
+#![tactic(auto)]
+
 ghost use Rattle.std.specs.Prelude.{◌<◌, ◌^◌};
 ghost use Rattle.names.specs.Own.{NameTable};
 ghost use Rattle.display.specs.Operands.{insn_text};

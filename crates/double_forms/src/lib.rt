@@ -1,4 +1,6 @@
 // The forms of the names of three registers of unlike length.
+#![tactic(auto)]
+
 ghost use Rattle.std.specs.Prelude.{◌≡◌, ◌<◌, ◌≤◌};
 ghost use Rattle.forms.specs.declared.Form.TheVariants.{Double};
 ghost use Rattle.forms.specs.Forms.{form_of};

@@ -1,4 +1,6 @@
 // Operations between lanes of w bits and lanes of 2w bits: a doubleword has lanes of w bits, and a quadword as many of 2w.
+#![tactic(auto)]
+
 ghost use Rattle.std.specs.Prelude.{◌≡◌, ◌+◌, ◌*◌, ◌^◌, ◌<◌, ◌≤◌, pos};
 ghost use Rattle.std.specs.Int.Signed.{shr_z};
 ghost use Rattle.laws.specs.Signed.{modulo};
@@ -15,7 +17,7 @@ use tables::lengths::{Lengths, of_shape};
 
 // What makes lanes of 2w bits from lanes of w bits, by its instruction's name. A shift carries its amount; it and a move
 // read the first source alone.
-#[derive(Drop)]
+#[derive(Clone, Copy)]
 pub enum LongOp {
     Add,
     Sub,
@@ -27,14 +29,14 @@ pub enum LongOp {
 }
 
 // What makes lanes of 2w bits from lanes of 2w and of w bits.
-#[derive(Drop)]
+#[derive(Clone, Copy)]
 pub enum WideOp {
     Add,
     Sub,
 }
 
 // What makes lanes of w bits from lanes of 2w bits: the low half of a shifted lane, the high half of a sum or difference.
-#[derive(Drop)]
+#[derive(Clone, Copy)]
 pub enum NarrowOp {
     Shr(u32),
     Add,
@@ -42,7 +44,7 @@ pub enum NarrowOp {
 }
 
 // An operation by its shape, with the sign by which lanes of w bits are extended.
-#[derive(Drop)]
+#[derive(Clone, Copy)]
 pub enum DoubleOp {
     Long(LongOp, Sign),
     Wide(WideOp, Sign),

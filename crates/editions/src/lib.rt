@@ -1,4 +1,6 @@
 // The editions of the manual: which mnemonics an edition withholds, and the number by which a caller names it.
+#![tactic(auto)]
+
 ghost use Rattle.std.specs.Prelude.{◌≡◌};
 ghost use Rattle.names.specs.Names.{name_of};
 ghost use Rattle.editions.specs.Editions.{withholds, edition_of};

@@ -1,4 +1,6 @@
 // What an operation does to a file of 32 doublewords, and to the mark.
+#![tactic(auto)]
+
 ghost use Rattle.std.specs.Prelude.{◌≡◌, ◌<◌, ◌≤◌};
 ghost use Rattle.laws.specs.Choice.{either};
 ghost use Rattle.double_lanes.specs.Double.{lengths_of};
@@ -16,7 +18,7 @@ use meanings::{Numbers, Registers};
 use operations::Operation;
 
 // What an operation on registers of one length leaves: the file, and the mark.
-#[derive(Drop)]
+#[derive(Clone, Copy)]
 pub struct Performed {
     pub file: [u64; 32],
     pub mark: bool,

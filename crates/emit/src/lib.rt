@@ -1,4 +1,6 @@
 // The pairs of steps, put into a lent output as far as it reaches.
+#![tactic(auto)]
+
 ghost use Rattle.std.specs.Prelude.{◌≡◌, true, [], ◌∷◌, ℕ, ◌+◌, ◌*◌, ◌%◌, ◌^◌, ◌<◌, ◌≤◌, length, set};
 ghost use Rattle.laws.specs.Answer.{accepted};
 ghost use Rattle.laws.specs.Placed.{Placed};

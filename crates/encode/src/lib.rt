@@ -1,4 +1,6 @@
 // Writing a record as a pair of halfwords.
+#![tactic(auto)]
+
 ghost use Rattle.std.specs.Prelude.{◌≡◌};
 ghost use Rattle.homes.specs.Home.{home_of};
 ghost use Rattle.names.specs.Names.{name_of};

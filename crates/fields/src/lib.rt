@@ -1,4 +1,6 @@
 // The fields of a pair: register numbers, and the two halfwords put together from their fields.
+#![tactic(auto)]
+
 ghost use Rattle.std.specs.Prelude.{◌≡◌, ◌%◌};
 ghost use Rattle.fields.specs.Answers.{bits_answer};
 ghost use Rattle.fields.specs.Halfwords.{first, second};
@@ -7,7 +9,7 @@ ghost use Rattle.fields.specs.Registers.{dnum_of, vec_bits};
 use insn::{Operand, Refusal};
 
 // What `vec_bits` answers: whether the register is a quadword, and the number of its (lower) doubleword; or the refusal.
-#[derive(Drop)]
+#[derive(Clone, Copy)]
 pub enum VectorBits {
     Are(bool, u8),
     Refused(Refusal),

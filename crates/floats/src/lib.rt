@@ -1,4 +1,6 @@
 // The floats that an immediate stands for, and the immediate of a float.
+#![tactic(auto)]
+
 ghost use Rattle.std.specs.Prelude.{◌≡◌};
 ghost use Rattle.floats.specs.Answers.{float_found_answer};
 ghost use Rattle.floats.specs.Floats.{k_of, float_of, float_bits};
@@ -31,7 +33,7 @@ pub fn float_bits(imm8: u8) -> u64
 }
 
 // What `float_imm8` answers: the immediate, or that there is none.
-#[derive(Drop)]
+#[derive(Clone, Copy)]
 pub enum FloatFound {
     Imm8(u8),
     NoImm8,

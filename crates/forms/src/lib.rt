@@ -1,11 +1,13 @@
 // What a mnemonic's operands are, and what it does with them.
+#![tactic(auto)]
+
 use double_lanes::DoubleOp;
 use insn::{Sign, Width};
 use lanes::LaneOp;
 use operations::{BitOp, ConstantOp};
 
 // A shift at each lane: left, right, left with twice the bits, or right with half of them.
-#[derive(Drop)]
+#[derive(Clone, Copy)]
 pub enum Direction {
     Left,
     Right(Sign),
@@ -14,7 +16,7 @@ pub enum Direction {
 }
 
 // The operands that a mnemonic takes, and what it does with them.
-#[derive(Drop)]
+#[derive(Clone, Copy)]
 pub enum Form {
     // Target and two sources, lane by lane.
     Lanes(LaneOp, Width),

@@ -1,5 +1,7 @@
 // Halves of sums and differences of lanes, rounded down. The lanes are halved before they are added or subtracted, so that
 // no number has more than 64 bits.
+#![tactic(auto)]
+
 ghost use Rattle.std.specs.Prelude.{◌≡◌, ◌^◌, ◌<◌, ◌≤◌, pos, ◌+ℤ◌, ◌-ℤ◌};
 ghost use Rattle.laws.specs.Signed.{modulo};
 ghost use Rattle.arithmetic.specs.Whole.{read_as};
@@ -10,7 +12,7 @@ use arithmetic::whole::right;
 use insn::Sign;
 
 // A halving operation, by its instruction's name.
-#[derive(Drop)]
+#[derive(Clone, Copy)]
 pub enum HalvingOp {
     Hadd,
     Rhadd,

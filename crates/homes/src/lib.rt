@@ -1,4 +1,6 @@
 // The inverse of the tables: where a mnemonic is written.
+#![tactic(auto)]
+
 ghost use Rattle.std.specs.Prelude.{false, ◌≡◌};
 ghost use Rattle.names.specs.Names.{name_of};
 ghost use Rattle.homes.specs.Home.{home_of};
@@ -6,7 +8,7 @@ ghost use Rattle.homes.specs.Home.{home_of};
 use names::{COUNT, VMOV};
 
 // The table that has a mnemonic's name, and the name's first cell there.
-#[derive(Drop)]
+#[derive(Clone, Copy)]
 pub enum Home {
     Same3(u8), // table A7-9, the cell U:opc:B:size
     Shift(u8), // table A7-12, the cell U:A:B:size

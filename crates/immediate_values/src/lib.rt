@@ -1,4 +1,6 @@
 // The modified immediate op:cmode:imm8 of a mnemonic and a number or a float.
+#![tactic(auto)]
+
 ghost use Rattle.std.specs.Prelude.{false, ◌≡◌, ◌<◌};
 ghost use Rattle.laws.specs.Signed.{twos_complement};
 ghost use Rattle.homes.specs.Home.{home_of};

@@ -1,4 +1,6 @@
 // Modified immediates: what op, cmode and imm8 stand for.
+#![tactic(auto)]
+
 ghost use Rattle.std.specs.Prelude.{◌≡◌, ◌<◌, ◌^◌};
 ghost use Rattle.immediates.specs.Answers.{expansion_answer};
 ghost use Rattle.immediates.specs.Modified.{bytes_of, constant_at, element, expand_imm, modimm_operand, needs_nonzero, zero_refused};
@@ -7,7 +9,7 @@ use floats::{float_bits, imm_float};
 use insn::{Operand, Refusal, signed};
 
 // What `expand_imm` answers: the 64-bit pattern, or the refusal.
-#[derive(Drop)]
+#[derive(Clone, Copy)]
 pub enum Expansion {
     Pattern(u64),
     Refused(Refusal),

@@ -14,7 +14,7 @@ use mir.Facts.{to_z-of_z, to_z_pos}
 use borrow.Author.Tests.{le-ltb}
 use Rattle.laws.specs.Signed.{twos_complement, modulo}
 use Rattle.laws.proofs.Never.{wrong}
-use Rattle.laws.proofs.Signed.{modulo-pos, modulo-neg, signed_high}
+use Rattle.laws.proofs.Signed.{modulo-pos, modulo-neg, signed_low, signed_high}
 
 -- -1 - v
 abbrev pub flip : ℤ → ℤ
@@ -51,6 +51,10 @@ neg-le {v = negsuc n} f e = omega arith
 pub neg_is : {v : ℤ} → SFits w64 v → le_z (pos 0) v ≡ false → 18446744073709551615 - nat_abs (flip v) ≡ modulo 64 v
 neg_is {v = pos n} f e = wrong (sym e ∙ leb-zero n)
 neg_is {v = negsuc n} f e = sym (modulo-neg 64 n (omega arith))
+
+-- a pattern whose top bit is clear
+pub low_is : (p : ℕ) → p < 2 ^ 63 → to_z w64 p ≡ twos_complement 64 p
+low_is p lo = to_z_pos w64 lo ∙ sym (signed_low 64 p lo)
 
 -- a pattern with its top bit set
 module _ (p : ℕ) (lo : 2 ^ 63 ≤ p) (hi : p < 2 ^ 64) where

@@ -1,4 +1,6 @@
 // The words that every other crate speaks: operands, records, widths, signed numbers, and the causes of refusal.
+#![tactic(auto)]
+
 ghost use Rattle.std.specs.Prelude.{◌≡◌};
 ghost use Rattle.insn.specs.Record.{place_at};
 ghost use Rattle.insn.specs.Refusals.{number};
@@ -7,7 +9,7 @@ pub mod signed;
 pub mod widths;
 
 // One place of a record: none, a register by its number, a whole number, a float, or an operand of another kind.
-#[derive(Drop)]
+#[derive(Clone, Copy)]
 pub enum Operand {
     Absent,
     D(u8),
@@ -19,14 +21,14 @@ pub enum Operand {
 }
 
 // The manual's name of the encoding.
-#[derive(Drop)]
+#[derive(Clone, Copy)]
 pub enum Mark {
     T1,
     T2,
 }
 
 // A record: an instruction as it was read, or as it is to be written. Places past the count are absent, whatever they hold.
-#[derive(Drop)]
+#[derive(Clone, Copy)]
 pub struct Insn {
     pub mnemonic: u16,
     pub mark: Mark,
@@ -38,7 +40,7 @@ pub struct Insn {
 }
 
 // How many bits an element has.
-#[derive(Drop)]
+#[derive(Clone, Copy)]
 pub enum Width {
     B8,
     B16,
@@ -47,21 +49,21 @@ pub enum Width {
 }
 
 // How an element is read: as a number from 0, or in two's complement.
-#[derive(Drop)]
+#[derive(Clone, Copy)]
 pub enum Sign {
     Unsigned,
     Signed,
 }
 
 // Which edition of the manual a call goes by: ARM DDI 0406B or 0406C.
-#[derive(Drop)]
+#[derive(Clone, Copy)]
 pub enum Edition {
     B,
     C,
 }
 
 // Why an input is refused; `refusal_number` has the number of each.
-#[derive(Drop)]
+#[derive(Clone, Copy)]
 pub enum Refusal {
     NoFamily,
     FixedBits,

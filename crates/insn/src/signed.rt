@@ -3,6 +3,7 @@ ghost use Rattle.std.specs.Prelude.{◌≡◌};
 ghost use Rattle.laws.specs.Signed.{twos_complement, modulo};
 
 // The number whose two's complement is p.
+#[tactic(auto, using(crate::proofs::Signs::low_is))]
 pub fn signed_of(p: u64) -> i64
     ensures { result ≡ twos_complement 64 p }
 {

@@ -1,4 +1,6 @@
 // Lane arithmetic on 64-bit words: one operation at every lane of 8, 16, 32 or 64 bits.
+#![tactic(auto)]
+
 ghost use Rattle.std.specs.Prelude.{◌≡◌, ◌+◌, ◌-◌, ◌*◌, ◌/◌, ◌%◌, ◌^◌, ◌<◌, ◌≤◌};
 ghost use Rattle.lanes.specs.Lane.{lane_of, lanes_of};
 
@@ -13,7 +15,7 @@ use saturating::{SaturatingOp, saturated};
 
 // A lane operation, by its instruction's name. A shift carries its amount, and reads n alone; a saturating or halving one
 // carries which it is.
-#[derive(Drop)]
+#[derive(Clone, Copy)]
 pub enum LaneOp {
     Add,
     Sub,

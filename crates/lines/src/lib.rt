@@ -1,4 +1,6 @@
 // The lines of a listing.
+#![tactic(auto)]
+
 ghost use Rattle.std.specs.Prelude.{◌≡◌, ◌∷◌, [], ◌++◌, map, ◌+◌, ◌*◌, ◌/◌, ◌<◌, ◌≤◌, ◌^◌, length};
 ghost use Rattle.names.specs.Own.{NameTable};
 ghost use Rattle.laws.specs.Answer.{refused};
@@ -14,7 +16,7 @@ use readings::Reading;
 use totals::Sort;
 
 // The place after a pair's text, and the pair's sort.
-#[derive(Drop)]
+#[derive(Clone, Copy)]
 struct Put {
     next: usize,
     sort: Sort,

@@ -1,9 +1,15 @@
 // Lists the pairs of standard input on standard output.
+#![tactic(auto)]
+
 ghost use Rattle.std.specs.Prelude.{◌≡◌, length};
 ghost use Rattle.listing.specs.Answers.{enough};
 
-use libc::{STDIN_FILENO, STDOUT_FILENO};
 use listing::{ENOUGH, Listed};
+
+// Where the pairs come from, and where their listing goes.
+const STDIN: i32 = 0;
+
+const STDOUT: i32 = 1;
 
 // Room for the longest input, and one byte more, by which a longer one is noticed.
 fn input_buffer() -> [u8; 65537]
@@ -21,11 +27,11 @@ fn output_buffer() -> [u8; ENOUGH]
 
 fn main() {
     let mut input = input_buffer();
-    let n = io::read_full(STDIN_FILENO, &mut input);
+    let n = io::read_full(STDIN, &mut input);
     let mut out = output_buffer();
     match listing::list(&input[..n], &mut out) {
         Listed::Length(k) => {
-            io::write_all(STDOUT_FILENO, &out[..k]);
+            io::write_all(STDOUT, &out[..k]);
         }
         Listed::TooShort => {}
     }

@@ -1,10 +1,12 @@
 // A listing as bytes in a lent buffer.
+#![tactic(auto)]
+
 ghost use Rattle.std.specs.Prelude.{◌≡◌};
 ghost use Rattle.listing.specs.Answers.{listed_answer, length_for, out_after};
 ghost use Rattle.lines.specs.Listing.{listing};
 
 // What a listing answers: its length, or that the buffer is too short for it.
-#[derive(Drop)]
+#[derive(Clone, Copy)]
 pub enum Listed {
     Length(usize),
     TooShort,

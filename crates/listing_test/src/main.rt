@@ -1,19 +1,25 @@
 // Lists the replayed pairs, inputs at the bounds of what is listed, and 16384 pairs of one sort, for each sort.
 // Standard input has the replayed pairs as bytes, and then 64 pairs of each sort. tools/relist makes it, and what is due
 // from the original's answers.
+#![tactic(auto)]
+
 ghost use Rattle.std.specs.Prelude.{◌≡◌, ◌<◌, ◌≤◌, length};
 ghost use Rattle.listing.specs.Answers.{enough};
 
-use libc::{STDIN_FILENO, STDOUT_FILENO};
 use listing::{ENOUGH, Listed};
 
+// Where the pairs come from, and where everything is written.
+const STDIN: i32 = 0;
+
+const STDOUT: i32 = 1;
+
 fn put(text: &[u8]) {
-    io::write_all(STDOUT_FILENO, text);
+    io::write_all(STDOUT, text);
 }
 
 fn put_count(what: &[u8], n: u64) {
     put(what);
-    io::print_decimal(STDOUT_FILENO, n);
+    io::print_decimal(STDOUT, n);
 }
 
 fn input_buffer() -> [u8; 65540]
@@ -164,9 +170,9 @@ fn show_sorts(groups: &[u8], out: &mut [u8])
 
 fn main() {
     let mut pairs = [0u8; 12160];
-    io::read_full(STDIN_FILENO, &mut pairs);
+    io::read_full(STDIN, &mut pairs);
     let mut groups = [0u8; 1280];
-    io::read_full(STDIN_FILENO, &mut groups);
+    io::read_full(STDIN, &mut groups);
     let bytes = repeated(&pairs);
     let mut out = output_buffer();
     show(&pairs, 12160, &mut out);

@@ -1,4 +1,6 @@
 // Words out of bytes, the lowest byte first.
+#![tactic(auto)]
+
 ghost use Rattle.std.specs.Prelude.{◌≡◌, ◌+◌, ◌<◌, ◌≤◌, length, get_or};
 ghost use Rattle.little_endian.specs.Word.{word_at};
 

@@ -1,33 +1,92 @@
 // loading SHEET START [FILLED]: runs a sum sheet on a start file, and writes the pair count and rows 0 to 13, or the
 // refusal; and `saturated` where the mark, which starts as no, ends as yes. FILLED lists the rows that were filled
 // beforehand, as 0,1,2; all were where it is left out.
+#![tactic(auto)]
+
 ghost use Rattle.std.specs.Prelude.{◌+◌, ◌<◌, ◌≤◌, length};
 ghost use Rattle.loader.specs.Start.{StartFile};
 
 use little_endian::word_at;
 use report::{put, put_answer};
 use row_list::{RowList, row_list};
+use std::env::FillError;
+use std::fs::File;
+use std::io::{Error, Read};
+use std::rt::{Env, Files};
+
+// Where it is written why a file was not opened.
+const STDERR: i32 = 2;
+
+// Writes a line to standard error: what failed, a colon and why.
+fn fail(what: &[u8], why: &[u8]) {
+    io::write_all(STDERR, what);
+    io::write_all(STDERR, b": ");
+    io::write_all(STDERR, why);
+    io::write_all(STDERR, b"\n");
+}
+
+// Says why a file was not opened, without the error's number.
+fn fail_by(rt: &impl Alloc, path: &str, e: Error) {
+    match e.to_string(rt.alloc()) {
+        Ok(text) => {
+            let all = text.as_str();
+            let why = match all.split_once(" (os error ") {
+                Some((before, _)) => before,
+                None => all,
+            };
+            fail(path.as_bytes(), why.as_bytes());
+        }
+        Err(_) => fail(path.as_bytes(), b"no memory to say why"),
+    }
+}
+
+// Opens the file at a path; says why where it cannot.
+fn opened<R: Env + Files + Alloc>(rt: &R, path: &[u8]) -> Option<R::File> {
+    match std::str::from_utf8(path) {
+        Ok(text) => match File::open(rt, text) {
+            Ok(file) => Some(file),
+            Err(e) => {
+                fail_by(rt, text, e);
+                None
+            }
+        },
+        Err(_) => {
+            fail(path, b"not UTF-8");
+            None
+        }
+    }
+}
+
+// Reads until buf is full, the file ends or a read fails: how many bytes it put at the start of buf.
+fn read_from(file: &mut impl Read, buf: &mut [u8]) -> usize
+    ensures { result ≤ length buf.new }
+{
+    let mut done = 0;
+    while done < buf.len() {
+        let n = file.read(&mut buf[done..]).unwrap_or(0);
+        if n == 0 {
+            break;
+        }
+        done += n;
+    }
+    done
+}
 
 // Reads the file that argument k names, as far as the buffer reaches: how many bytes, or one more than it holds
 // where there is no such file.
-fn read_file(k: usize, buf: &mut [u8]) -> usize
+fn read_file(rt: &(impl Env + Files + Alloc), k: usize, buf: &mut [u8]) -> usize
     requires { length buf.old < 65536 }
     ensures { result ≤ length buf.new + 1 }
 {
     let mut path = io::buffer();
-    let n = os::arg(k, &mut path);
     let none = buf.len() + 1;
-    if os::errno() != 0 {
-        return none;
+    match rt.arg(k, &mut path) {
+        Ok(n) => match opened(rt, &path[..n]) {
+            Some(mut file) => read_from(&mut file, buf),
+            None => none,
+        },
+        Err(_) => none,
     }
-    let fd = os::open_read(&path[..n]);
-    if fd < 0 {
-        os::fail(&path[..n]);
-        return none;
-    }
-    let got = io::read_full(fd, buf);
-    libc::close(fd);
-    got
 }
 
 // The doublewords of a start file.
@@ -51,15 +110,15 @@ fn evaluate(sheet: &[u8], start: &[u8; 257], filled: u16) {
 }
 
 // Runs the sheet of the first argument on the start file of the second, with a list of filled rows as text.
-pub fn load_listed(list: &[u8]) {
+pub fn load_listed(rt: &(impl Env + Files + Alloc), list: &[u8]) {
     let mut sheet = [0u8; 6145];
-    let n = read_file(1, &mut sheet);
+    let n = read_file(rt, 1, &mut sheet);
     if 6145 < n {
         put(b"no sheet: loading SHEET START [FILLED]\n");
         return;
     }
     let mut start = [0u8; 257];
-    if read_file(2, &mut start) != 256 {
+    if read_file(rt, 2, &mut start) != 256 {
         put(b"no start file of 256 bytes: loading SHEET START [FILLED]\n");
         return;
     }
@@ -73,21 +132,19 @@ pub fn load_listed(list: &[u8]) {
 }
 
 // The same with the list that is the third argument; all rows where there is none.
-pub fn load() {
-    let count = os::arg_count();
-    if count < 4 {
-        load_listed(b"all");
-        return;
-    }
+pub fn load(rt: &(impl Env + Files + Alloc)) {
     let mut list = io::buffer();
-    let n = os::arg(3, &mut list);
-    if os::errno() != 0 {
-        put(b"no list of rows of at most 4096 bytes: loading SHEET START [FILLED]\n");
-        return;
+    match rt.arg(3, &mut list) {
+        Ok(n) => {
+            if let Err(FillError::NotPresent) = rt.arg(4, &mut [0u8; 1]) {
+                load_listed(rt, &list[..n]);
+            } else {
+                put(b"not more than one list of rows: loading SHEET START [FILLED]\n");
+            }
+        }
+        Err(FillError::NotPresent) => load_listed(rt, b"all"),
+        Err(FillError::TooLong) => {
+            put(b"no list of rows of at most 4096 bytes: loading SHEET START [FILLED]\n");
+        }
     }
-    if 4 < count {
-        put(b"not more than one list of rows: loading SHEET START [FILLED]\n");
-        return;
-    }
-    load_listed(&list[..n]);
 }

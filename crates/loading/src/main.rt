@@ -1,4 +1,6 @@
 // loading SHEET START [FILLED]: the loading computer.
-fn main() {
-    loader::load();
+#![tactic(auto)]
+
+fn main(rt: HostRuntime) {
+    loader::load(&rt);
 }

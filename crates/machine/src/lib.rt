@@ -1,4 +1,6 @@
 // The register machine: one instruction on its state, a file of 32 doublewords and a mark.
+#![tactic(auto)]
+
 ghost use Rattle.std.specs.Prelude.{◌≡◌};
 ghost use Rattle.machine.specs.Answers.{stepped_answer};
 ghost use Rattle.machine.specs.State.{state};
@@ -10,7 +12,7 @@ use meanings::Meaning;
 use readings::Reading;
 
 // How a step ended.
-#[derive(Drop)]
+#[derive(Clone, Copy)]
 pub enum Outcome {
     Done,
     Refused(Refusal),
@@ -18,7 +20,7 @@ pub enum Outcome {
 
 // What a step answers, with the file and the mark that it leaves; a refusal leaves both as they were. The mark is the
 // manual's cumulative saturation bit: whether a lane was moved to an end of its range.
-#[derive(Drop)]
+#[derive(Clone, Copy)]
 pub struct Stepped {
     pub outcome: Outcome,
     pub file: [u64; 32],

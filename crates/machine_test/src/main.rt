@@ -3,9 +3,13 @@
 // old target, the first source, the second source and the result, and is run on doublewords and on both halves of
 // quadwords. After : + and ! it has a mnemonic, the operands, a number, and the quadwords Q0, Q1, Q2 and then Q0
 // afterwards; after + the mark turns, and those after ! are refused.
-use libc::STDIN_FILENO;
+#![tactic(auto)]
+
 use replay::{put, put_count};
 use vectors::{count_meanings, passes, passes_unlike};
+
+// Where the vectors come from.
+const STDIN: i32 = 0;
 
 // 1 for a line whose vector passes; else 0, and the line is printed.
 fn tell(line: &[u8], passed: bool) -> u64 {
@@ -22,7 +26,7 @@ fn tell(line: &[u8], passed: bool) -> u64 {
 fn skip() {
     let mut byte = [0u8; 1];
     for _ in 0..1000u16 {
-        if io::read_full(STDIN_FILENO, &mut byte) < 1 {
+        if io::read_full(STDIN, &mut byte) < 1 {
             return;
         }
         if byte[0] == b'\n' {
@@ -34,7 +38,7 @@ fn skip() {
 // Reads a vector with registers of one length and runs it both ways: 1 where it passes, else 0.
 fn alike() -> u64 {
     let mut line = [0u8; 100];
-    if io::read_full(STDIN_FILENO, &mut line) < 100 {
+    if io::read_full(STDIN, &mut line) < 100 {
         return 0;
     }
     let once = passes(&line, false);
@@ -45,7 +49,7 @@ fn alike() -> u64 {
 // Reads a vector with registers of different lengths and runs it.
 fn unlike(sign: u8) -> u64 {
     let mut line = [0u8; 153];
-    if io::read_full(STDIN_FILENO, &mut line) < 153 {
+    if io::read_full(STDIN, &mut line) < 153 {
         return 0;
     }
     let passed = passes_unlike(&line, sign);
@@ -62,7 +66,7 @@ fn main() {
     let mut read: u64 = 0;
     let mut passed: u64 = 0;
     for _ in 0..1000u16 {
-        if io::read_full(STDIN_FILENO, &mut sign) < 1 {
+        if io::read_full(STDIN, &mut sign) < 1 {
             break;
         }
         if sign[0] != b'#' {

@@ -1,4 +1,6 @@
 // The mark: whether an operation moves a lane to an end of its range.
+#![tactic(auto)]
+
 ghost use Rattle.std.specs.Prelude.{◌≡◌, ◌+◌, ◌/◌, ◌%◌, ◌^◌, ◌<◌, ◌≤◌};
 ghost use Rattle.laws.specs.Choice.{either};
 ghost use Rattle.marks.specs.Moved.{lane_moved, some_moved, lanes_moved, moved_by};

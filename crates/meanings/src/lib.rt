@@ -1,4 +1,6 @@
 // The meaning of a record: an operation and its registers.
+#![tactic(auto)]
+
 ghost use Rattle.std.specs.Prelude.{◌≡◌};
 ghost use Rattle.floats.specs.Answers.{float_found_answer};
 ghost use Rattle.immediates.specs.Answers.{expansion_answer};
@@ -19,7 +21,7 @@ use operations::{BitOp, ConstantOp, Operation};
 use tables::lengths::{Lengths, alike};
 
 // Whether the registers are quadwords, and the numbers of their (lower) doublewords: the target's and the sources'.
-#[derive(Drop)]
+#[derive(Clone, Copy)]
 pub struct Registers {
     pub quad: bool,
     pub d: u8,
@@ -28,7 +30,7 @@ pub struct Registers {
 }
 
 // The numbers of three registers' (lower) doublewords: the target's and the sources'.
-#[derive(Drop)]
+#[derive(Clone, Copy)]
 pub struct Numbers {
     pub d: u8,
     pub n: u8,
@@ -36,14 +38,14 @@ pub struct Numbers {
 }
 
 // Three operands as registers: which of them are quadwords, and their numbers; or the refusal.
-#[derive(Drop)]
+#[derive(Clone, Copy)]
 enum Gathered {
     Three(Lengths, Numbers),
     Refused(Refusal),
 }
 
 // What `meaning_of` answers: an operation on registers of one length, or of its own lengths, or the refusal.
-#[derive(Drop)]
+#[derive(Clone, Copy)]
 pub enum Meaning {
     Does(Operation, Registers),
     Doubles(DoubleOp, Width, Numbers),

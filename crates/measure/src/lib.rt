@@ -1,4 +1,6 @@
 // The first fault of steps, or how many pairs they are written as.
+#![tactic(auto)]
+
 ghost use Rattle.std.specs.Prelude.{◌≡◌, true, ℕ, ◌*◌, ◌≤◌, length};
 ghost use Rattle.laws.specs.AnswerAt.{accepted};
 ghost use Rattle.measure.specs.Own.{measured_answer};
@@ -57,7 +59,7 @@ fn of_step(s: Step) -> u64
 }
 
 // What `measure` finds: the pairs of all steps; or the first fault, with the index of its step.
-#[derive(Drop)]
+#[derive(Clone, Copy)]
 pub enum Measured {
     Pairs(u64),
     Faulty(Refusal, u64),

@@ -1,4 +1,6 @@
 // The name of a mnemonic.
+#![tactic(auto)]
+
 ghost use Rattle.std.specs.Prelude.{◌≡◌, ◌∷◌, [], ◌++◌, ◌<◌, ◌^◌, eqb, drop};
 ghost use Rattle.laws.specs.Choice.{choose};
 ghost use Rattle.names.specs.Names.{codes, name_of};

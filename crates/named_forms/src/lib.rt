@@ -1,4 +1,6 @@
 // The form of a mnemonic.
+#![tactic(auto)]
+
 ghost use Rattle.std.specs.Prelude.{◌≡◌, ◌<◌, ◌≤◌};
 ghost use Rattle.forms.specs.declared.Form.TheVariants.{Lanes};
 ghost use Rattle.forms.specs.Forms.{form_of};

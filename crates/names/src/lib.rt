@@ -1,4 +1,6 @@
 // The mnemonics: their numbers, their spellings, and which are pairwise.
+#![tactic(auto)]
+
 ghost use Rattle.std.specs.Prelude.{◌≡◌};
 ghost use Rattle.laws.specs.Choice.{both};
 ghost use Rattle.names.specs.Names.{name_of, pairwise};

@@ -1,13 +1,17 @@
 // Prints how many mnemonics there are, the longest name's length, every number and name, and the float of every immediate.
+#![tactic(auto)]
+
 use insn::Operand;
-use libc::STDOUT_FILENO;
+
+// Where everything is written.
+const STDOUT: i32 = 1;
 
 fn put(text: &[u8]) {
-    io::write_all(STDOUT_FILENO, text);
+    io::write_all(STDOUT, text);
 }
 
 fn put_number(n: u64) {
-    io::print_decimal(STDOUT_FILENO, n);
+    io::print_decimal(STDOUT, n);
 }
 
 // The byte at place j of the name of mnemonic m; a space where there is none.

@@ -1,4 +1,6 @@
 // The one modified-immediate pair that leaves 64 bits in a D register, where there is one.
+#![tactic(auto)]
+
 ghost use Rattle.std.specs.Prelude.{true, ◌≡◌, ◌≢◌, ◌*◌, ◌/◌, ◌%◌, ◌<◌};
 ghost use Rattle.tables.specs.Cells.{cell_at};
 ghost use Rattle.immediate_tables.specs.Modimm.{modimm};
@@ -11,7 +13,7 @@ use immediate_values::{byte_bits, halfword_offset, word_offset};
 use immediates::Expansion;
 
 // A place op:cmode:imm8, or none.
-#[derive(Drop)]
+#[derive(Clone, Copy)]
 pub enum OnePair {
     Place(u16),
     Nowhere,

@@ -1,4 +1,6 @@
 // What an operation leaves in a doubleword of its target.
+#![tactic(auto)]
+
 ghost use Rattle.std.specs.Prelude.{◌≡◌};
 ghost use Rattle.operations.specs.Operations.{bitwise, with_constant, result_of};
 
@@ -6,7 +8,7 @@ use insn::Width;
 use lanes::LaneOp;
 
 // A bitwise operation, by its instruction's name.
-#[derive(Drop)]
+#[derive(Clone, Copy)]
 pub enum BitOp {
     And,
     Orr,
@@ -20,7 +22,7 @@ pub enum BitOp {
 }
 
 // What a modified immediate does to its target, by its instruction's name.
-#[derive(Drop)]
+#[derive(Clone, Copy)]
 pub enum ConstantOp {
     Mov,
     Mvn,
@@ -29,7 +31,7 @@ pub enum ConstantOp {
 }
 
 // An operation: at each lane, bit by bit, or with a constant of 64 bits.
-#[derive(Drop)]
+#[derive(Clone, Copy)]
 pub enum Operation {
     Lanes(LaneOp, Width),
     Bits(BitOp),

@@ -1,11 +1,15 @@
 // Replays the readings and writings on standard input, which tools/replay made from the Rust original's answers, with the
 // refusals of edition B. Each line has 90 bytes: r or w, under B R or W, then hw1 hw2 address answer mnemonic mark count,
 // then kind and value of three places.
-use libc::STDIN_FILENO;
+#![tactic(auto)]
+
 use replay::{field, put, put_count, put_refused, record};
 
+// Where the lines come from.
+const STDIN: i32 = 0;
+
 // How many lines gave each answer, 0 to 9, under edition C and under B; and how many were not as the list says.
-#[derive(Drop)]
+#[derive(Clone, Copy)]
 struct Tally {
     read: [u64; 10],
     written: [u64; 10],
@@ -86,7 +90,7 @@ fn replayed() -> Tally {
     let mut line = [0u8; 90];
     let mut n: u64 = 0;
     while n < 1000000 {
-        let got = io::read_full(STDIN_FILENO, &mut line);
+        let got = io::read_full(STDIN, &mut line);
         if got < 90 {
             return t;
         }

@@ -17,7 +17,7 @@ use Rattle.laws.proofs.Never.{wrong}
 use Rattle.insn.specs.declared.Insn.{Insn}
 use Rattle.insn.specs.declared.Mark.TheVariants.{T1}
 use Rattle.insn.specs.declared.Operand.{Operand}
-use Rattle.insn.specs.declared.Operand.TheVariants.{Float, Absent}
+use Rattle.insn.specs.declared.Operand.TheVariants.{Absent}
 use Rattle.tables.specs.Cells.{cell_at}
 use Rattle.immediate_tables.specs.Modimm.{modimm}
 use Rattle.names.specs.Names.{names, name_of, number_of}

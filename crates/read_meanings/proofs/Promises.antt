@@ -31,7 +31,7 @@ use Rattle.tables.specs.declared.DiffShape.TheVariants as shape
 use Rattle.register_tables.proofs.Known.{same3-known, diff-known}
 use Rattle.immediate_tables.proofs.Known.{shift-known}
 use Rattle.fields.specs.Halfwords.{bit, field}
-use Rattle.fields.specs.Registers.{dnum_of, Bits, bits, vec_of, vec_bits}
+use Rattle.fields.specs.Registers.{dnum_of, bits, vec_of, vec_bits}
 use Rattle.fields.proofs.Promises.{bits_of_vec}
 use Rattle.amounts.proofs.Shifts.{code_lt}
 use Rattle.amounts.specs.Shifts.{right_end, left_start, amount_of, size_code}

@@ -1,4 +1,6 @@
 // What a reading answers, and records put together from register numbers, which an odd quad register refuses.
+#![tactic(auto)]
+
 ghost use Rattle.std.specs.Prelude.{◌≡◌, ◌/◌, ◌%◌, ◌<◌};
 ghost use Rattle.laws.specs.Answer.{accepted};
 ghost use Rattle.laws.specs.Choice.{choose};
@@ -9,7 +11,7 @@ ghost use Rattle.readings.specs.Operands.{insn, two, three};
 use insn::{Insn, Mark, Operand, Refusal};
 
 // What a reading answers: the record, or the refusal.
-#[derive(Drop)]
+#[derive(Clone, Copy)]
 pub enum Reading {
     Read(Insn),
     Refused(Refusal),

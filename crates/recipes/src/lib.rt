@@ -1,4 +1,6 @@
 // The records that a step is written as, and how a constant's half is put together.
+#![tactic(auto)]
+
 ghost use Rattle.std.specs.Prelude.{◌≡◌};
 ghost use Rattle.recipes.specs.Pairs.{by_words, recipe_of};
 
@@ -7,7 +9,7 @@ use one_pair::{OnePair, one_for};
 pub mod records;
 
 // One pair, by its place op:cmode:imm8; one word in both words of a D register; or a low and a high word, joined.
-#[derive(Drop)]
+#[derive(Clone, Copy)]
 pub enum Recipe {
     One(u16),
     Twice(u32),

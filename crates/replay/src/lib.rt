@@ -1,31 +1,34 @@
 // Lines of a replayed list, and the counts that a test prints.
+#![tactic(auto)]
+
 ghost use Rattle.std.specs.Prelude.{◌≡◌, ◌<◌};
 ghost use Rattle.replay.specs.Lines.{number_at, FileAt, same_numbers, record_in, digit_value};
 
-use libc::STDOUT_FILENO;
+// Where everything is written.
+const STDOUT: i32 = 1;
 
 // Writes a text.
 pub fn put(text: &[u8]) {
-    io::write_all(STDOUT_FILENO, text);
+    io::write_all(STDOUT, text);
 }
 
 // Writes what is counted, and the count.
 pub fn put_count(what: &[u8], n: u64) {
     put(what);
-    io::print_decimal(STDOUT_FILENO, n);
+    io::print_decimal(STDOUT, n);
     put(b"\n");
 }
 
 // Writes how many cases got the refusal k.
 pub fn put_refused(k: u64, n: u64) {
     put(b"refused ");
-    io::print_decimal(STDOUT_FILENO, k);
+    io::print_decimal(STDOUT, k);
     put_count(b": ", n);
 }
 
 // The lines of an emulator's cases: how many there were, how many came out otherwise, and in how many the saturation mark
 // comes as no and is left as yes.
-#[derive(Drop)]
+#[derive(Clone, Copy)]
 pub struct Tally {
     pub lines: u64,
     pub wrong: u64,

@@ -1,20 +1,24 @@
 // What `loading` writes: the pair count and rows 0 to 13, or the refusal, with the row that a 16 is about; and the mark
 // where it is yes.
+#![tactic(auto)]
+
 use insn::Refusal;
-use libc::STDOUT_FILENO;
 use machine::Outcome;
 use runs::Ran;
 use sheet::Evaluation;
 use unfilled::{Unfilled, unfilled_row};
 
+// Where everything is written.
+const STDOUT: i32 = 1;
+
 // Writes a text.
 pub fn put(text: &[u8]) {
-    io::write_all(STDOUT_FILENO, text);
+    io::write_all(STDOUT, text);
 }
 
 fn put_number(label: &[u8], n: u64) {
     put(label);
-    io::print_decimal(STDOUT_FILENO, n);
+    io::print_decimal(STDOUT, n);
 }
 
 // 16 hexadecimal digits.

@@ -1,11 +1,13 @@
 // A list of rows, as the text of an argument, to the set of them: row r at bit r.
+#![tactic(auto)]
+
 ghost use Rattle.std.specs.Prelude.{◌≡◌, ◌∷◌, [], ◌+◌, ◌≤◌, length};
 ghost use Rattle.row_list.specs.Answers.{list_answer};
 ghost use Rattle.row_list.specs.Lists.{same_text, words_of, rows_named, as_set, list_of};
 ghost use Rattle.row_list.specs.Own.{digit_row, EndsAt};
 
 // The set of the rows of a list; or the text is no list.
-#[derive(Drop)]
+#[derive(Clone, Copy)]
 pub enum RowList {
     Rows(u16),
     NoList,

@@ -1,4 +1,6 @@
 // A run of pairs on a lent register file and mark, with a budget of steps.
+#![tactic(auto)]
+
 ghost use Rattle.std.specs.Prelude.{◌≡◌, ◌*◌, ◌/◌, ◌%◌, ◌≤◌, length, drop};
 ghost use Rattle.laws.specs.Answer.{accepted};
 ghost use Rattle.machine.specs.State.{state};
@@ -9,14 +11,14 @@ use insn::Refusal;
 use machine::{Outcome, step};
 
 // What a run answers: how it ended, and the pairs executed.
-#[derive(Drop)]
+#[derive(Clone, Copy)]
 pub struct Ran {
     pub outcome: Outcome,
     pub executed: u64,
 }
 
 // Where the pairs' loop halted: its answer, and the file and the mark that it leaves.
-#[derive(Drop)]
+#[derive(Clone, Copy)]
 struct Halt {
     ran: Ran,
     file: [u64; 32],

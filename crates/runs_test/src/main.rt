@@ -2,13 +2,17 @@
 // with, and ends as the whole run did there. Each line has 1162 bytes: 12 pairs, how many of them there are, the start,
 // the answer with a budget of 12, the pairs executed, the mark and D0 to D31 before, the mark and D0 to D31 after, in
 // hexadecimal.
-use libc::STDIN_FILENO;
+#![tactic(auto)]
+
 use machine::Outcome;
 use replay::{Tally, field, file_at, mark_at, put_tally, same_file, tallied};
 use runs::{Ran, run};
 
+// Where the runs come from.
+const STDIN: i32 = 0;
+
 // How a run ended: the refusal's number or 0, and the pairs executed.
-#[derive(Drop)]
+#[derive(Clone, Copy)]
 struct End {
     number: u64,
     executed: u64,
@@ -95,7 +99,7 @@ fn replayed() -> Tally {
     };
     let mut n: u64 = 0;
     while n < 1000000 {
-        let got = io::read_full(STDIN_FILENO, &mut line);
+        let got = io::read_full(STDIN, &mut line);
         if got < 1162 {
             return t;
         }

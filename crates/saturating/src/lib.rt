@@ -1,5 +1,7 @@
 // Sums and differences that stop at the ends of a lane's range. They are tested before they are taken, so that no number
 // has more than 64 bits.
+#![tactic(auto)]
+
 ghost use Rattle.std.specs.Prelude.{◌≡◌, ◌^◌, ◌<◌, ◌≤◌, pos, ◌+ℤ◌, ◌-ℤ◌};
 ghost use Rattle.std.specs.Int.Signed.{lt_z};
 ghost use Rattle.laws.specs.Signed.{modulo};
@@ -10,7 +12,7 @@ use arithmetic::arith::{difference, ones, sum};
 use insn::Sign;
 
 // A saturating operation, one that stops at the ends of the range, by its instruction's name.
-#[derive(Drop)]
+#[derive(Clone, Copy)]
 pub enum SaturatingOp {
     Qadd,
     Qsub,

@@ -1,4 +1,6 @@
 // Sum sheets translated and run.
+#![tactic(auto)]
+
 ghost use Rattle.std.specs.Prelude.{◌≡◌};
 ghost use Rattle.translator.specs.Translation.{written_of};
 ghost use Rattle.machine.specs.State.{state};
@@ -12,7 +14,7 @@ use runs::{Ran, run};
 use translator::{Translation, translate};
 
 // What an evaluation answers: the run's answer, or the translation's refusal.
-#[derive(Drop)]
+#[derive(Clone, Copy)]
 pub enum Evaluation {
     Ran(Ran),
     Refused(Refusal),

@@ -1,4 +1,6 @@
 // The cases of `sheet_test`: a sheet translated and its pairs run, held to what the case's line says.
+#![tactic(auto)]
+
 use insn::Refusal;
 use machine::Outcome;
 use replay::{digit, field, file_at, same_file};
@@ -6,7 +8,7 @@ use runs::{Ran, run};
 use translator::Translation;
 
 // What a case answers: the refusal's number or 0, the step's index where it has one, and the pairs executed.
-#[derive(Drop)]
+#[derive(Clone, Copy)]
 struct Answer {
     number: u64,
     index: u64,

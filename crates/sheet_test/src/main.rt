@@ -1,12 +1,16 @@
 // Replays the sum sheets on standard input, whose answers tools/sheets worked out with a model of documents 01 and 02.
 // A case is two lines: 1110 bytes with what is handed in and what comes back, then the sheet in hexadecimal.
-use libc::STDIN_FILENO;
+#![tactic(auto)]
+
 use replay::{field, put, put_count, put_refused};
 use sheet_cases::{agrees, bytes_of};
 
+// Where the cases come from.
+const STDIN: i32 = 0;
+
 // How many cases there were and gave each answer, 0 to 16; the steps of those that were done, the pairs executed, and
 // how many cases were not as the model says.
-#[derive(Drop)]
+#[derive(Clone, Copy)]
 struct Tally {
     cases: u64,
     answers: [u64; 17],
@@ -18,7 +22,7 @@ struct Tally {
 // The second line of a case, whose sheet has that many bytes.
 fn sheet_line(length: usize) -> [u8; 6200] {
     let mut text = [0u8; 12400];
-    io::read_full(STDIN_FILENO, &mut text[..2 * (length % 6200) + 1]);
+    io::read_full(STDIN, &mut text[..2 * (length % 6200) + 1]);
     bytes_of(&text)
 }
 
@@ -66,7 +70,7 @@ fn replayed() -> Tally {
     let mut line = [0u8; 1110];
     let mut n: u64 = 0;
     while n < 1000000 {
-        let got = io::read_full(STDIN_FILENO, &mut line);
+        let got = io::read_full(STDIN, &mut line);
         if got < 1110 {
             return t;
         }

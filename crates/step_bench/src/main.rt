@@ -3,11 +3,18 @@
 // most 255 of two halfwords, in hexadecimal. The gate's has every operation at every width once: 80 with registers of one
 // length, then the 34 saturating and halving ones, then 63 with registers of different lengths. The argument says how
 // many rounds; the one line that is written says how many pairs were done, what the registers add up to, and the mark.
-use libc::{STDIN_FILENO, STDOUT_FILENO};
+#![tactic(auto)]
+
 use machine::Outcome;
 use replay::field;
+use std::rt::Env;
 
-#[derive(Drop)]
+// Where the list comes from, and where the line is written.
+const STDIN: i32 = 0;
+
+const STDOUT: i32 = 1;
+
+#[derive(Clone, Copy)]
 struct Tally {
     done: u64,
     file: [u64; 32],
@@ -101,18 +108,18 @@ fn sum(file: [u64; 32]) -> u64 {
     total
 }
 
-fn main() {
+fn main(rt: HostRuntime) {
     let mut digits = [0u8; 8];
-    os::arg(1, &mut digits);
+    let _ = rt.arg(1, &mut digits);
     let mut text = [0u8; 3094];
-    let pairs = pairs_in(io::read_full(STDIN_FILENO, &mut text));
+    let pairs = pairs_in(io::read_full(STDIN, &mut text));
     let code = code_of(&text);
     let tally = rounds(decimal(&digits), &code, pairs, file_of(&text));
     let file = tally.file;
-    io::print_decimal(STDOUT_FILENO, tally.done);
-    io::write_all(STDOUT_FILENO, b" pairs, registers ");
-    io::print_decimal(STDOUT_FILENO, sum(file));
-    io::write_all(STDOUT_FILENO, b", mark ");
-    io::print_decimal(STDOUT_FILENO, tally.mark as u64);
-    io::write_all(STDOUT_FILENO, b"\n");
+    io::print_decimal(STDOUT, tally.done);
+    io::write_all(STDOUT, b" pairs, registers ");
+    io::print_decimal(STDOUT, sum(file));
+    io::write_all(STDOUT, b", mark ");
+    io::print_decimal(STDOUT, tally.mark as u64);
+    io::write_all(STDOUT, b"\n");
 }

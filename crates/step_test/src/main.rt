@@ -1,8 +1,12 @@
 // Steps the cases on standard input, which tools/emulate made with an ARM emulator, and compares what is left.
 // Each line has 1040 bytes: hw1 hw2, the mark and D0 to D31 before, the mark and D0 to D31 after, in hexadecimal.
-use libc::STDIN_FILENO;
+#![tactic(auto)]
+
 use machine::Outcome;
 use replay::{Tally, field, file_at, mark_at, put_tally, same_file, tallied};
+
+// Where the cases come from.
+const STDIN: i32 = 0;
 
 // Whether a line's pair leaves the file and the mark that the line says.
 fn agrees(line: &[u8; 1040]) -> bool {
@@ -27,7 +31,7 @@ fn compared() -> Tally {
     };
     let mut n: u64 = 0;
     while n < 10000000 {
-        let got = io::read_full(STDIN_FILENO, &mut line);
+        let got = io::read_full(STDIN, &mut line);
         if got < 1040 {
             return t;
         }

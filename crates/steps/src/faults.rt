@@ -12,7 +12,7 @@ use crate::rules::{A_VALUES, B_VALUES, C_VALUES, keeps_rules};
 use insn::Refusal;
 
 // What a step is found to be.
-#[derive(Drop)]
+#[derive(Clone, Copy)]
 pub enum Verdict {
     Sound,
     Faulty(Refusal),

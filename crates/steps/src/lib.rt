@@ -1,10 +1,12 @@
 // The steps of a sum sheet: its bytes as steps, the step rules, and the faults of a step.
+#![tactic(auto)]
+
 pub mod bytes;
 pub mod faults;
 pub mod rules;
 
 // One step, its bytes by name; the two words are the last sixteen bytes.
-#[derive(Drop)]
+#[derive(Clone, Copy)]
 pub struct Step {
     pub kind: u8,
     pub target: u8,
@@ -19,7 +21,7 @@ pub struct Step {
 }
 
 // What a translation comes with: the rows that were filled beforehand, row r at bit r.
-#[derive(Drop)]
+#[derive(Clone, Copy)]
 pub struct Terms {
     pub filled: u16,
 }

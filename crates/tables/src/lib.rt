@@ -1,4 +1,6 @@
 // How the code has the manual's tables: blank cells, the classes and the shapes of rows, and the lengths of their operands.
+#![tactic(auto)]
+
 ghost use Rattle.std.specs.Prelude.{◌≡◌, eqb};
 ghost use Rattle.laws.specs.Choice.{choose};
 
@@ -18,7 +20,7 @@ pub fn numbered(cell: u8) -> u16
 }
 
 // How the rows of table A7-12 read their amount.
-#[derive(Drop)]
+#[derive(Clone, Copy)]
 pub enum ShiftClass {
     Right,
     Left,
@@ -28,7 +30,7 @@ pub enum ShiftClass {
 }
 
 // The operands of the rows of table A7-10: long is Q D D, wide Q Q D, narrow D Q Q.
-#[derive(Drop)]
+#[derive(Clone, Copy)]
 pub enum DiffShape {
     Long,
     Wide,

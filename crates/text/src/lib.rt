@@ -1,4 +1,6 @@
 // Numbers and literal texts. A byte past the end of the buffer is not stored but counted, so that to measure is to write to nothing.
+#![tactic(auto)]
+
 ghost use Rattle.std.specs.Prelude.{◌≡◌, ◌∷◌, [], ◌+◌, ◌-◌, ◌/◌, ◌%◌, ◌<◌, ◌^◌, ltb, length};
 ghost use Rattle.laws.specs.Choice.{choose};
 ghost use Rattle.laws.specs.Placed.{Placed};

@@ -1,4 +1,6 @@
 // The totals under a listing: how many pairs there are of each sort.
+#![tactic(auto)]
+
 ghost use Rattle.std.specs.Prelude.{◌≡◌, ◌∷◌, [], ◌++◌, ◌+◌, ◌<◌, ◌^◌, length};
 ghost use Rattle.laws.specs.Placed.{Placed};
 ghost use Rattle.text.specs.Text.{decimal};
@@ -8,7 +10,7 @@ ghost use Rattle.totals.specs.Own.{figure_in, counted};
 use decode::Family;
 
 // The sort of a pair: its family if it is accepted, else refused.
-#[derive(Drop)]
+#[derive(Clone, Copy)]
 pub enum Sort {
     Same,
     Diff,

@@ -1,4 +1,6 @@
 // Sum sheets written as pairs.
+#![tactic(auto)]
+
 ghost use Rattle.std.specs.Prelude.{◌≡◌, length};
 ghost use Rattle.steps.specs.Faults.{terms};
 ghost use Rattle.translator.specs.Answers.{translation_answer};
@@ -10,7 +12,7 @@ use measure::{Measured, measure};
 use steps::Terms;
 
 // What a translation answers: the pair count; or the refusal, with the index of its step where it has one.
-#[derive(Drop)]
+#[derive(Clone, Copy)]
 pub enum Translation {
     Pairs(u64),
     Refused(Refusal),

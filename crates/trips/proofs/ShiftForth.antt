@@ -21,7 +21,6 @@ use Rattle.insn.specs.Record.{place_at}
 use Rattle.tables.specs.Cells.{cell_at}
 use Rattle.names.specs.Names.{name_of, number_of}
 use Rattle.homes.specs.Home.{home_of}
-use Rattle.laws.specs.Search.{at, none}
 use Rattle.immediate_tables.specs.Shift.{shift_rows, shift_cells, shift_classes, vmovl}
 use Rattle.tables.specs.declared.ShiftClass.{ShiftClass}
 use Rattle.tables.specs.declared.ShiftClass.TheVariants.{Right, Left, Narrow, Long, Convert}

@@ -12,7 +12,6 @@ use Rattle.laws.specs.Choice.{choose, both}
 use Rattle.laws.proofs.Range.{values, agree}
 use Rattle.insn.specs.declared.Mark.TheVariants.{T1}
 use Rattle.tables.specs.Cells.{cell_at}
-use Rattle.laws.specs.Search.{at}
 use Rattle.laws.proofs.Never.{never}
 use Rattle.immediate_tables.specs.Shift.{shift_rows, shift_cells, shift_classes, vmovl}
 use Rattle.tables.specs.declared.ShiftClass.{ShiftClass}

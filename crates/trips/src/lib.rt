@@ -1,4 +1,6 @@
 // Reading and writing one after the other: what is read is written back, and what is written is read back.
+#![tactic(auto)]
+
 ghost use Rattle.std.specs.Prelude.{◌≡◌};
 ghost use Rattle.readings.specs.Answers.{reading_answer};
 ghost use Rattle.decode.specs.Editions.{reading_in};

@@ -1,4 +1,6 @@
 // The row that a refusal with 16 is about.
+#![tactic(auto)]
+
 ghost use Rattle.std.specs.Prelude.{◌≡◌, true, not, ◌<◌, leb};
 ghost use Rattle.laws.specs.Choice.{both};
 ghost use Rattle.steps.specs.Faults.{terms};
@@ -15,7 +17,7 @@ use steps::faults::{has_row, with_row};
 use steps::rules::{A_VALUES, B_VALUES, C_VALUES, keeps_rules};
 
 // A row that is read and that nobody filled; or none.
-#[derive(Drop)]
+#[derive(Clone, Copy)]
 pub enum Unfilled {
     Row(u8),
     NoRow,

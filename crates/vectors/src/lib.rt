@@ -1,4 +1,6 @@
 // The vectors of `machine_test`: a line's record stepped, and the file held to what the line says.
+#![tactic(auto)]
+
 use insn::{Insn, Mark, Operand};
 use machine::Outcome;
 use replay::{field, same_file};

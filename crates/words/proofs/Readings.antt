@@ -29,7 +29,6 @@ use Rattle.immediate_tables.specs.Modimm.{modimm}
 use Rattle.names.specs.Names.{names, number_of, pairwise, place}
 use Rattle.immediate_tables.specs.Shift.{shift_cells, vmovl}
 use Rattle.tables.specs.declared.DiffShape.{DiffShape}
-use Rattle.tables.specs.declared.DiffShape.TheVariants as shape
 use Rattle.tables.specs.declared.ShiftClass.{ShiftClass}
 use Rattle.tables.specs.declared.ShiftClass.TheVariants.{Right, Left, Narrow, Long, Convert}
 use Rattle.names.proofs.Promises.{names_counted}

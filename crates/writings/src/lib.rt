@@ -1,4 +1,6 @@
 // What a writing answers, and what the places of a record hold, as a mnemonic's form asks.
+#![tactic(auto)]
+
 ghost use Rattle.std.specs.Prelude.{◌≡◌};
 ghost use Rattle.writings.specs.Forms.{as_bit, is_quad, is_number, register_in, all_three};
 ghost use Rattle.writings.specs.Answers.{field_answer};
@@ -8,28 +10,28 @@ use fields::VectorBits;
 use insn::{Operand, Refusal};
 
 // What a writing answers: the two halfwords, or the refusal.
-#[derive(Drop)]
+#[derive(Clone, Copy)]
 pub enum Writing {
     Wrote(u16, u16),
     Refused(Refusal),
 }
 
 // The number of a register, or the place L:imm6 of a shift amount; or the refusal.
-#[derive(Drop)]
+#[derive(Clone, Copy)]
 pub enum Field {
     Is(u8),
     Refused(Refusal),
 }
 
 // The place op:cmode:imm8 of a modified immediate, 13 bits; or the refusal.
-#[derive(Drop)]
+#[derive(Clone, Copy)]
 pub enum WideField {
     Is(u16),
     Refused(Refusal),
 }
 
 // What three operands stand for.
-#[derive(Drop)]
+#[derive(Clone, Copy)]
 pub enum Fields {
     Are(u8, u8, u8),
     Refused(Refusal),

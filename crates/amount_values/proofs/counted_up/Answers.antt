@@ -1,0 +1,9 @@
+use borrow.Author.Rules.{rules}
+use borrow.Author.Tests.{lt-ltb, le-ltb}
+use Rattle.amount_values.proofs.counted_up.Goals as goal
+
+pub returns-then-k-n : goal.returns-then-k-n
+returns-then-k-n c = rw (lt-ltb _ _ c.if-k-n.true)
+
+pub returns : goal.returns
+returns c = rw (le-ltb _ _ c.if-k-n.false)

@@ -1,0 +1,24 @@
+use mathlib.Core.List.{List, [], ◌∷◌, ◌++◌, append_assoc}
+use mathlib.Core.Path.{sym, ap, ◌∙◌}
+use Prim.Native.Nat.{ℕ}
+use native.Mathlib.Omega.{arith}
+use lib.ListN.{take, drop, take-append-drop}
+use borrow.Author.Rules.{rules}
+use Rattle.names.proofs.Spellings.{no_name}
+use Rattle.names.specs.Names.{codes, name_of}
+use Rattle.name_text.proofs.Names.{begins}
+use Rattle.laws.proofs.Placed.{then, widen, reword}
+use Rattle.name_text.proofs.put_name.Goals as goal
+
+pub returns-then-m-ge-COUNT : goal.returns-then-m-ge-COUNT
+unfolding codes
+returns-then-m-ge-COUNT c =
+    rw (no_name c.args.m c.if-m-ge-COUNT.true) (widen (omega arith) c.put.ensures)
+
+pub returns : goal.returns
+unfolding codes
+returns c =
+    let s = codes (name_of c.args.m) in
+    let e = begins c.args.names.now c.requires.name_table c.args.m c.if-m-ge-COUNT.false in
+    let f = ap (λ (l : List ℕ). l ++ (drop 4 s ++ 32 ∷ [])) (sym e) ∙ sym (append_assoc (take 4 s) (drop 4 s) (32 ∷ [])) ∙ ap (λ (l : List ℕ). l ++ 32 ∷ []) (take-append-drop 4 s) in
+    reword f (then c.put_word-p.ensures c.put_ending.ensures)

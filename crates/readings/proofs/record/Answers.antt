@@ -1,0 +1,6 @@
+use mathlib.Core.Path.{refl}
+use Rattle.readings.proofs.record.Goals as goal
+
+pub returns : goal.returns
+returns c =
+    refl

@@ -1,0 +1,7 @@
+use Rattle.readings.proofs.register.Goals as goal
+
+pub returns-then-quad : goal.returns-then-quad
+returns-then-quad c = rw c.if-quad.true
+
+pub returns-else-quad : goal.returns-else-quad
+returns-else-quad c = rw c.if-quad.false

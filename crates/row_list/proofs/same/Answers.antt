@@ -1,0 +1,33 @@
+use mathlib.Core.Path.{◌≡◌, refl, sym, ◌∙◌}
+use Prim.Native.Nat.{◌≤◌, ◌-◌}
+use native.Mathlib.Omega.{arith}
+use lib.ListN.{length, drop}
+use borrow.Author.Rules.{rules}
+use Rattle.row_list.specs.Lists.{same_text}
+use Rattle.row_list.proofs.Texts.{unlike, equal, unequal, both_end}
+use Rattle.row_list.proofs.same.Goals as goal
+
+pub returns-then-a-b : goal.returns-then-a-b
+returns-then-a-b c = let a = c.args in sym (unlike a.a.now a.b.now c.if-a-b.true)
+
+pub loop-i-init : goal.loop-i-init
+loop-i-init c =
+    ((omega arith, omega arith), refl)
+
+pub returns-then-a-i : goal.returns-then-a-i
+returns-then-a-i c =
+    let a = c.args in
+    let l = c.loop-i in
+    sym (unequal a.a.now a.b.now l.i (omega arith) (omega arith) c.if-a-i.true) ∙ l.invariant.1
+
+pub loop-i-preserved : goal.loop-i-preserved
+loop-i-preserved c =
+    let a = c.args in
+    let l = c.loop-i in
+    ((omega arith, omega arith), sym (equal a.a.now a.b.now l.i (omega arith) (omega arith) c.if-a-i.false) ∙ l.invariant.1)
+
+pub returns : goal.returns
+returns c =
+    let a = c.args in
+    let l = c.loop-i in
+    sym (both_end a.a.now a.b.now l.i (omega arith) (omega arith)) ∙ l.invariant.1

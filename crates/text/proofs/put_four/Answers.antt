@@ -1,0 +1,6 @@
+use borrow.Author.Rules.{rules}
+use Rattle.text.proofs.put_four.Goals as goal
+
+pub returns : goal.returns
+returns c =
+    c.put_word.ensures
