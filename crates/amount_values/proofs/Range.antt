@@ -1,4 +1,4 @@
--- The range among which every amount lies: what the code's tests of it say, and what is inside.
+-- The range among which every amount lies: what the code's test of it says, and what is inside.
 -- Assumes nothing.
 use mathlib.Core.Path.{◌≡◌, refl, sym, ap, ◌∙◌}
 use mathlib.Core.Bool.{Bool, true, false}
@@ -13,14 +13,6 @@ use mir.Val.{Fits, SFits, to_z, of_z}
 use borrow.Author.Tests.{ltb-true, ltb-false}
 use Rattle.laws.proofs.Never.{wrong}
 use Rattle.amount_values.specs.Range.{is_outside}
-
-pub negative-outside : (v : ℤ) → lt_z v (pos 0) ≡ true → true ≡ is_outside v
-negative-outside (pos n) e = absurd (let h = ltb-true n 0 e in let z : ⊥ = omega arith in z)
-negative-outside (negsuc n) e = refl
-
-pub past-outside : (v : ℤ) → lt_z v (pos 0) ≡ false → lt_z (pos 64) v ≡ is_outside v
-past-outside (pos n) e = refl
-past-outside (negsuc n) e = wrong (sym e)
 
 -- what the test of the range said
 pub range-tested : {v : ℤ} {r b : Bool} → SFits w64 v → r ≡ is_outside (to_z w64 (of_z w64 v)) → r ≡ b → is_outside v ≡ b

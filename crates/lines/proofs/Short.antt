@@ -13,7 +13,6 @@ use lib.Text.{eqt}
 use borrow.Author.Tests.{ltb-true}
 use Rattle.laws.specs.Answer.{Answer, accepted, refused}
 use Rattle.laws.specs.Choice.{choose, both}
-use Rattle.laws.specs.Search.{at}
 use Rattle.laws.specs.Signed.{twos_complement}
 use Rattle.laws.proofs.Range.{values, agree, agree2}
 use Rattle.laws.proofs.Never.{wrong}

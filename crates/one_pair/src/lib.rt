@@ -7,7 +7,7 @@ ghost use Rattle.immediate_tables.specs.Modimm.{modimm};
 ghost use Rattle.fields.specs.Halfwords.{bit, field};
 ghost use Rattle.one_pair.specs.Answers.{one_answer};
 ghost use Rattle.one_pair.specs.One.{setting, one_at, one_for};
-ghost use Rattle.one_pair.specs.Own.{turned as turnedOf, Covers};
+ghost use Rattle.one_pair.specs.Own.{turned as turned_of, Covers};
 
 use immediate_values::{byte_bits, halfword_offset, word_offset};
 use immediates::Expansion;
@@ -34,7 +34,7 @@ const EACH_BIT: u16 = 0x1e00;
 
 // What a row leaves of its pattern: VMVN the complement.
 fn turned(row: u8, p: u64) -> u64
-    ensures { result ≡ turnedOf row p }
+    ensures { result ≡ turned_of row p }
 {
     if row < 16 {
         return p;

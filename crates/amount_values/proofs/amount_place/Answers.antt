@@ -1,5 +1,4 @@
 use mathlib.Core.Path.{◌∙◌}
-use borrow.Author.Rules.{rules}
 use Rattle.amount_values.proofs.Amounts.{right-place, left-place, narrow-place, long-place, convert-place, narrow-none, long-none, convert-none, bits_below}
 use Rattle.amount_values.proofs.amount_place.Goals as goal
 

@@ -1,6 +1,5 @@
 use mathlib.Core.Path.{sym}
 use mir.Facts.{to_z-of_z}
-use borrow.Author.Rules.{rules}
 use Rattle.amount_values.proofs.Amounts.{outside-nine}
 use Rattle.amount_values.proofs.Range.{range-tested, inside_is, inside-le, inside-asks}
 use Rattle.amount_values.proofs.number_place.Goals as goal

@@ -1,7 +1,6 @@
 use mathlib.Core.Path.{ap, ◌∙◌}
 use Prim.Native.Nat.{ℕ, ◌*◌, ◌%◌, ◌^◌}
 use native.Mathlib.Omega.{arith}
-use borrow.Author.Rules.{rules}
 use Rattle.insn.proofs.Sizes.{at-most-64}
 use Rattle.amounts.proofs.Shifts.{code_lt, shifted}
 use Rattle.amounts.proofs.element_bits.Goals as goal

@@ -1,4 +1,3 @@
-use borrow.Author.Rules.{rules}
 use borrow.Author.Tests.{eq-eqb, ne_eqb}
 use Rattle.amounts.specs.Shifts.{left_start}
 use Rattle.amounts.proofs.left_start.Goals as goal

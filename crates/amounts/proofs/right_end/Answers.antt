@@ -1,4 +1,3 @@
-use borrow.Author.Rules.{rules}
 use borrow.Author.Tests.{eq-eqb, ne_eqb}
 use Rattle.amounts.specs.Shifts.{right_end}
 use Rattle.amounts.proofs.right_end.Goals as goal

@@ -1,4 +1,3 @@
-use borrow.Author.Rules.{rules}
 use Rattle.amounts.proofs.shift_amount.Goals as goal
 
 pub returns-in-Right : goal.returns-in-Right

@@ -1,5 +1,4 @@
 use mathlib.Core.Path.{sym, ap, ◌∙◌}
-use borrow.Author.Rules.{rules}
 use Rattle.listing.specs.Answers.{listed_answer}
 use Rattle.capi.proofs.bodlixo_list.Goals as goal
 

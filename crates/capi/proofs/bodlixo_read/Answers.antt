@@ -1,5 +1,4 @@
 use mathlib.Core.Path.{sym, ap, ◌∙◌}
-use borrow.Author.Rules.{rules}
 use Rattle.laws.specs.Answer.{Answer}
 use Rattle.insn.specs.declared.Insn.{Insn}
 use Rattle.readings.specs.Answers.{reading_answer}

@@ -1,5 +1,4 @@
 use mathlib.Core.Path.{sym, ap, ◌∙◌}
-use borrow.Author.Rules.{rules}
 use Rattle.runs.specs.Answers.{ending_of}
 use Rattle.runs.specs.Run.{Run}
 use Rattle.machine.specs.declared.Outcome.{Outcome}

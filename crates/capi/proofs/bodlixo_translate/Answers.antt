@@ -1,6 +1,5 @@
 use mathlib.Core.Path.{sym, ◌∙◌, ap}
 use Prim.Native.Nat.{ℕ}
-use borrow.Author.Rules.{rules}
 use Rattle.translator.specs.Answers.{translation_answer}
 use Rattle.capi.specs.Results.{code_at, count_or_place}
 use Rattle.capi.proofs.bodlixo_translate.Goals as goal

@@ -1,6 +1,5 @@
 use mathlib.Core.Path.{◌≡◌, sym, ap, ◌∙◌}
 use Prim.Native.Nat.{ℕ}
-use borrow.Author.Rules.{rules}
 use Rattle.insn.specs.declared.Edition.{Edition}
 use Rattle.insn.specs.declared.Insn.{Insn}
 use Rattle.editions.specs.Editions.{edition_of}

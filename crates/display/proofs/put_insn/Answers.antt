@@ -1,6 +1,5 @@
 use mathlib.Core.List.{map}
 use lib.Seq.{append_snoc}
-use borrow.Author.Rules.{rules}
 use Rattle.names.specs.Names.{codes, name_of}
 use Rattle.display.specs.Operands.{operand_text, with_commas, operands, insn_text}
 use Rattle.laws.proofs.Placed.{then, reword}

@@ -1,4 +1,3 @@
-use borrow.Author.Rules.{rules}
 use borrow.Author.Tests.{eq-eqb, ne_eqb}
 use Rattle.editions.proofs.ByNumber.{by_number}
 use Rattle.editions.proofs.withholds.Goals as goal

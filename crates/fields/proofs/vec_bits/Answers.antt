@@ -1,4 +1,3 @@
-use borrow.Author.Rules.{rules}
 use borrow.Author.Tests.{lt-ltb, le-ltb}
 use Rattle.fields.specs.Registers.{vec_bits}
 use Rattle.fields.proofs.vec_bits.Goals as goal

@@ -1,6 +1,5 @@
 use mathlib.Core.Bool.{false}
 use native.Mathlib.Omega.{arith}
-use borrow.Author.Rules.{rules}
 use borrow.Author.Tests.{eq-eqb, ne_eqb, lt-ltb, le-ltb}
 use Rattle.homes.proofs.Cells.{modimm-stands}
 use Rattle.immediate_values.proofs.Immediates.{only-candidate}

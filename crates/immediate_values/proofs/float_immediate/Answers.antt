@@ -1,5 +1,4 @@
 use mathlib.Core.Path.{sym, ap, ◌∙◌}
-use borrow.Author.Rules.{rules}
 use Rattle.floats.specs.Answers.{float_found_answer}
 use Rattle.immediate_values.proofs.Immediates.{float-found, float-none}
 use Rattle.immediate_values.proofs.float_immediate.Goals as goal

@@ -3,7 +3,6 @@ use mathlib.Core.Path.{◌≡◌, sym, ◌∙◌}
 use Prim.Native.Nat.{ℕ, ◌/◌, ◌%◌, ◌<◌}
 use native.Mathlib.Omega.{arith}
 use mir.Facts.{to_z-of_z}
-use borrow.Author.Rules.{rules}
 use Rattle.fields.specs.Halfwords.{bit, field}
 use Rattle.immediate_values.specs.Immediates.{immediate_reads}
 use Rattle.immediate_values.proofs.Immediates.{its-name, other_name}

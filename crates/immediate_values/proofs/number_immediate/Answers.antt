@@ -1,7 +1,6 @@
 use mathlib.Core.Bool.{false}
 use mir.Facts.{to_z-of_z}
 use native.Mathlib.Omega.{arith}
-use borrow.Author.Rules.{rules}
 use Rattle.homes.proofs.Cells.{modimm-stands}
 use Rattle.names.specs.Names.{name_of}
 use Rattle.laws.proofs.Promises.{number_back}

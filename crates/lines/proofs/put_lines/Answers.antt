@@ -1,13 +1,12 @@
 use mathlib.Core.List.{map}
 use mathlib.Core.Path.{◌≡◌, refl, sym}
-use Prim.Native.Nat.{◌-◌, ◌*◌, ◌/◌, ◌≤◌}
+use Prim.Native.Nat.{◌/◌}
 use native.Mathlib.Omega.{arith}
 use lib.ListN.{length}
 use borrow.Author.Rules.{rules}
 use Rattle.lines.specs.Listing.{pair_line, pair_sort, numbers_below, figure, ended_lines}
-use Rattle.laws.specs.Placed.{Placed}
 use Rattle.totals.specs.Totals.{count, totals_text}
-use Rattle.totals.proofs.Counts.{figures, figure-small}
+use Rattle.totals.proofs.Counts.{figure-small}
 use Rattle.lines.proofs.PairLines.{as_many, ended-last, one_more, figures-more, totals-line}
 use Rattle.laws.proofs.Placed.{then, nothing, widen, reword}
 use Rattle.lines.proofs.put_lines.Goals as goal

@@ -1,6 +1,5 @@
 use mathlib.Core.Path.{◌≡◌, ap, sym, ◌∙◌}
 use native.Mathlib.Omega.{arith}
-use borrow.Author.Rules.{rules}
 use Rattle.laws.specs.Answer.{accepted, refused}
 use Rattle.laws.proofs.Placed.{widen}
 use Rattle.insn.specs.Refusals.{number}

@@ -1,4 +1,3 @@
-use borrow.Author.Rules.{rules}
 use Rattle.names.specs.Names.{codes}
 use Rattle.lines.specs.Listing.{reading_text}
 use Rattle.laws.proofs.Placed.{then}

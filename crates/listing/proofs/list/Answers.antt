@@ -1,5 +1,4 @@
 use native.Mathlib.Omega.{arith}
-use borrow.Author.Rules.{rules}
 use Rattle.listing.proofs.Whole.{fits, too_short}
 use Rattle.listing.proofs.list.Goals as goal
 

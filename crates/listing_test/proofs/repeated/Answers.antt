@@ -1,4 +1,4 @@
-use Rattle.std.proofs.Common.{◌≡◌, ◌-◌, ◌≤◌, length, mod-lt, arith, rules}
+use Rattle.std.proofs.Common.{mod-lt, arith}
 use Rattle.listing_test.proofs.repeated.Goals as goal
 
 pub bounds-pairs-i : goal.bounds-pairs-i

@@ -1,10 +1,7 @@
 use mathlib.Core.Path.{◌≡◌}
 use Prim.Native.Nat.{ℕ, ◌≤◌, ◌<◌, ◌-◌, ◌*◌}
-use native.Mathlib.Omega.{arith}
 use lib.ListN.{length, get_or}
-use borrow.Author.Rules.{rules}
 use Rattle.little_endian.specs.Word.{word_at}
-use Rattle.laws.proofs.Filled.{one_more}
 use Rattle.loader.proofs.file_of.Given as goal
 
 abbrev pub invariant-loop-k : goal.invariant-loop-k

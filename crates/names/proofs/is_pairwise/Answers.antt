@@ -1,4 +1,3 @@
-use borrow.Author.Rules.{rules}
 use Rattle.names.proofs.Spellings.{pairwise-bit, no-pairwise}
 use Rattle.names.proofs.is_pairwise.Goals as goal
 

@@ -1,4 +1,3 @@
-use borrow.Author.Rules.{rules}
 use Rattle.names.proofs.is_pairwise_quad.Goals as goal
 
 pub returns-then-quad : goal.returns-then-quad

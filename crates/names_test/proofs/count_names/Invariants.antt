@@ -1,5 +1,4 @@
 use Prim.Native.Nat.{◌≤◌, ◌-◌}
-use borrow.Author.Rules.{rules}
 use Rattle.names_test.proofs.count_names.Given as goal
 
 abbrev pub invariant-loop-m : goal.invariant-loop-m

@@ -1,7 +1,6 @@
 use mathlib.Core.Path.{refl}
 use Prim.Native.Nat.{◌%◌}
 use native.Mathlib.Omega.{arith}
-use borrow.Author.Rules.{rules}
 use Rattle.one_pair.proofs.Guess.{by_bytes, covers, twice_word, twice-halfword}
 use Rattle.one_pair.proofs.candidate.Goals as goal
 

@@ -1,5 +1,4 @@
 use mathlib.Core.Path.{sym, ap, ◌∙◌}
-use borrow.Author.Rules.{rules}
 use Rattle.immediates.specs.Answers.{expansion_answer}
 use Rattle.one_pair.proofs.Tested.{refused-zero, no-pattern, by-pattern}
 use Rattle.one_pair.proofs.is_left.Goals as goal

@@ -1,5 +1,4 @@
 use mathlib.Core.Path.{sym, ◌∙◌}
-use borrow.Author.Rules.{rules}
 use Rattle.one_pair.proofs.Guess.{found-one}
 use Rattle.one_pair.proofs.one_for.Goals as goal
 

@@ -1,4 +1,3 @@
-use borrow.Author.Rules.{rules}
 use Rattle.readings.specs.Operands.{two}
 use Rattle.readings.proofs.Vectors.{even, one-odd}
 use Rattle.readings.proofs.register_and_value.Goals as goal

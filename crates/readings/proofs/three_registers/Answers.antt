@@ -1,7 +1,6 @@
 use mathlib.Core.Path.{◌≡◌}
 use Prim.Native.Nat.{◌+◌}
 use native.Mathlib.Omega.{arith}
-use borrow.Author.Rules.{rules}
 use Rattle.readings.specs.Operands.{three}
 use Rattle.readings.proofs.Vectors.{odd_quad, even, three-odd}
 use Rattle.readings.proofs.three_registers.Goals as goal

@@ -1,7 +1,6 @@
 use mathlib.Core.Path.{◌≡◌}
 use Prim.Native.Nat.{◌+◌}
 use native.Mathlib.Omega.{arith}
-use borrow.Author.Rules.{rules}
 use Rattle.readings.specs.Operands.{three}
 use Rattle.readings.proofs.Vectors.{odd_quad, even, pair-odd}
 use Rattle.readings.proofs.two_registers_and_value.Goals as goal

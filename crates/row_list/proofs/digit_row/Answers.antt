@@ -1,6 +1,5 @@
 use mathlib.Core.Path.{ap}
 use native.Mathlib.Omega.{arith}
-use borrow.Author.Rules.{rules}
 use borrow.Author.Tests.{lt-ltb, le-ltb}
 use Rattle.row_list.specs.declared.RowList.TheVariants.{Rows}
 use Rattle.row_list.proofs.Named.{own-bit}

@@ -1,9 +1,5 @@
-use mathlib.Core.Path.{◌≡◌, refl, sym, ◌∙◌}
-use Prim.Native.Nat.{◌≤◌, ◌-◌}
+use mathlib.Core.Path.{refl, sym, ◌∙◌}
 use native.Mathlib.Omega.{arith}
-use lib.ListN.{length, drop}
-use borrow.Author.Rules.{rules}
-use Rattle.row_list.specs.Lists.{same_text}
 use Rattle.row_list.proofs.Texts.{unlike, equal, unequal, both_end}
 use Rattle.row_list.proofs.same.Goals as goal
 

@@ -1,10 +1,7 @@
-use mathlib.Core.Path.{◌≡◌, refl, sym, ◌∙◌}
+use mathlib.Core.Path.{◌≡◌}
 use Prim.Native.Nat.{◌≤◌, ◌-◌}
-use native.Mathlib.Omega.{arith}
 use lib.ListN.{length, drop}
-use borrow.Author.Rules.{rules}
 use Rattle.row_list.specs.Lists.{same_text}
-use Rattle.row_list.proofs.Texts.{unlike, equal, unequal, both_end}
 use Rattle.row_list.proofs.same.Given as goal
 
 abbrev pub invariant-loop-i : goal.invariant-loop-i

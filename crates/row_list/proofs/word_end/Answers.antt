@@ -1,8 +1,5 @@
-use Prim.Native.Nat.{◌≤◌, ◌-◌}
 use native.Mathlib.Omega.{arith}
-use lib.ListN.{length}
-use borrow.Author.Rules.{rules}
-use Rattle.row_list.proofs.Words.{Passed, passed_none, passed-more, comma, at-end}
+use Rattle.row_list.proofs.Words.{passed_none, passed-more, comma, at-end}
 use Rattle.row_list.proofs.word_end.Goals as goal
 
 pub loop-i-init : goal.loop-i-init

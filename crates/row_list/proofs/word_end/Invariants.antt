@@ -1,8 +1,6 @@
 use Prim.Native.Nat.{◌≤◌, ◌-◌}
-use native.Mathlib.Omega.{arith}
 use lib.ListN.{length}
-use borrow.Author.Rules.{rules}
-use Rattle.row_list.proofs.Words.{Passed, passed_none, passed-more, comma, at-end}
+use Rattle.row_list.proofs.Words.{Passed}
 use Rattle.row_list.proofs.word_end.Given as goal
 
 abbrev pub invariant-loop-i : goal.invariant-loop-i

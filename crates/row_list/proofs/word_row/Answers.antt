@@ -1,6 +1,5 @@
 use mathlib.Core.Path.{ap, ◌∙◌}
 use native.Mathlib.Omega.{arith}
-use borrow.Author.Rules.{rules}
 use Rattle.row_list.specs.Answers.{list_answer}
 use Rattle.row_list.proofs.Named.{one_byte, no_length, no_one, two_bytes}
 use Rattle.row_list.proofs.word_row.Goals as goal

@@ -1,10 +1,7 @@
-use mathlib.Core.Path.{◌≡◌, ◌∙◌}
-use Prim.Native.Nat.{◌+◌, ◌-◌, ◌≤◌}
+use mathlib.Core.Path.{◌∙◌}
 use native.Mathlib.Omega.{arith}
-use lib.ListN.{length}
 use borrow.Author.Rules.{rules}
-use Rattle.row_list.specs.Lists.{words_of, rows_named, as_set}
-use Rattle.row_list.proofs.Joins.{with_rest, rest_all, rest-none, rest-row, rest-not}
+use Rattle.row_list.proofs.Joins.{rest_all, rest-none, rest-row, rest-not}
 use Rattle.row_list.proofs.words_rows.Goals as goal
 
 pub loop-at-init : goal.loop-at-init

@@ -1,10 +1,8 @@
-use mathlib.Core.Path.{◌≡◌, ◌∙◌}
+use mathlib.Core.Path.{◌≡◌}
 use Prim.Native.Nat.{◌+◌, ◌-◌, ◌≤◌}
-use native.Mathlib.Omega.{arith}
 use lib.ListN.{length}
-use borrow.Author.Rules.{rules}
 use Rattle.row_list.specs.Lists.{words_of, rows_named, as_set}
-use Rattle.row_list.proofs.Joins.{with_rest, rest_all, rest-none, rest-row, rest-not}
+use Rattle.row_list.proofs.Joins.{with_rest}
 use Rattle.row_list.proofs.words_rows.Given as goal
 
 abbrev pub invariant-loop-at : goal.invariant-loop-at

@@ -1,4 +1,4 @@
-use Rattle.std.proofs.Common.{◌-◌, ◌≤◌, rules}
+use Rattle.std.proofs.Common.{◌-◌, ◌≤◌}
 use Rattle.runs_test.proofs.agrees_cut.Given as goal
 
 abbrev pub invariant-loop-cut : goal.invariant-loop-cut

@@ -1,4 +1,4 @@
-use Rattle.std.proofs.Common.{◌≡◌, ◌-◌, ◌≤◌, length, rules}
+use Rattle.std.proofs.Common.{◌≡◌, ◌-◌, ◌≤◌, length}
 use Rattle.step_bench.proofs.code_of.Given as goal
 
 abbrev pub invariant-loop-k : goal.invariant-loop-k

@@ -1,7 +1,6 @@
 use mathlib.Core.Path.{◌≡◌}
 use Prim.Native.Nat.{◌≤◌, ◌-◌}
 use lib.ListN.{length}
-use borrow.Author.Rules.{rules}
 use Rattle.step_test.proofs.compared.Given as goal
 
 abbrev pub invariant-loop-n : goal.invariant-loop-n

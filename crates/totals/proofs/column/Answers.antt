@@ -1,5 +1,4 @@
 use native.Mathlib.Omega.{arith}
-use borrow.Author.Rules.{rules}
 use Rattle.totals.specs.Totals.{column}
 use Rattle.totals.proofs.column.Goals as goal
 

@@ -1,5 +1,4 @@
 use native.Mathlib.Omega.{arith}
-use borrow.Author.Rules.{rules}
 use Rattle.totals.proofs.count_one.Goals as goal
 
 pub overflow_add-counts : goal.overflow_add-counts

@@ -1,4 +1,3 @@
-use borrow.Author.Rules.{rules}
 use Rattle.totals.specs.Totals.{family_sort}
 use Rattle.totals.proofs.family_sort.Goals as goal
 

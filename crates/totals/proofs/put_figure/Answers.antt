@@ -1,4 +1,3 @@
-use borrow.Author.Rules.{rules}
 use Rattle.laws.proofs.Placed.{then}
 use Rattle.totals.proofs.put_figure.Goals as goal
 

@@ -1,4 +1,3 @@
-use borrow.Author.Rules.{rules}
 use Rattle.laws.proofs.Placed.{then}
 use Rattle.display.proofs.operands.put_next.Goals as goal
 

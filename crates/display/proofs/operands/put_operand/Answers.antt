@@ -1,6 +1,5 @@
 use mathlib.Core.Path.{sym, ◌∙◌}
 use native.Mathlib.Omega.{arith}
-use borrow.Author.Rules.{rules}
 use Rattle.display.proofs.Registers.{register-text}
 use Rattle.laws.proofs.Placed.{widen}
 use Rattle.display.proofs.operands.put_operand.Goals as goal

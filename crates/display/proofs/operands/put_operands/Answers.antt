@@ -1,7 +1,6 @@
 use mathlib.Core.List.{[], ◌∷◌}
 use native.Mathlib.Omega.{arith}
 use lib.Seq.{take_all}
-use borrow.Author.Rules.{rules}
 use Rattle.display.specs.Operands.{with_commas}
 use Rattle.laws.proofs.Placed.{then, nothing, widen}
 use Rattle.display.proofs.operands.put_operands.Goals as goal

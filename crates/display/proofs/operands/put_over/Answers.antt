@@ -1,5 +1,4 @@
 use mathlib.Core.Path.{refl, sym, ap, ◌∙◌}
-use borrow.Author.Rules.{rules}
 use Rattle.names.specs.Names.{codes}
 use Rattle.floats.specs.Answers.{float_found_answer}
 use Rattle.floats.specs.Found.{find_float}

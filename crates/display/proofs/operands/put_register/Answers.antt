@@ -1,6 +1,5 @@
 use mathlib.Core.Path.{refl}
 use native.Mathlib.Omega.{arith}
-use borrow.Author.Rules.{rules}
 use Rattle.text.proofs.Decimal.{within}
 use Rattle.laws.proofs.Placed.{then, widen, respell}
 use Rattle.display.proofs.operands.put_register.Goals as goal

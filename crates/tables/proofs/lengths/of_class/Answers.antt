@@ -1,4 +1,3 @@
-use borrow.Author.Rules.{rules}
 use Rattle.tables.proofs.lengths.of_class.Goals as goal
 
 pub returns-in-Right : goal.returns-in-Right

@@ -1,4 +1,3 @@
-use borrow.Author.Rules.{rules}
 use Rattle.tables.proofs.lengths.of_shape.Goals as goal
 
 pub returns-in-Long : goal.returns-in-Long
