@@ -41,7 +41,7 @@ fn fail_by(rt: &impl Alloc, path: &str, e: Error) {
 }
 
 // Opens the file at a path; says why where it cannot.
-fn opened<R: Env + Files + Alloc>(rt: &R, path: &[u8]) -> Option<R::File> {
+fn opened<R: Files + Alloc>(rt: &R, path: &[u8]) -> Option<R::File> {
     match std::str::from_utf8(path) {
         Ok(text) => match File::open(rt, text) {
             Ok(file) => Some(file),

@@ -23,7 +23,7 @@ pub returns-then-sheet-gt6144 : goal.returns-then-sheet-gt6144
 returns-then-sheet-gt6144 c =
     let a = c.args in
     let t = terms a.filled in
-    let e = overlong t a.sheet.now (length a.out.now) (omega (arith, c.if-sheet-ne0.false)) c.if-sheet-gt6144.true in
+    let e = overlong t a.sheet.now (length a.out.now) (omega arith) (omega arith) in
     record { answer = sym e; written = sym (kept t a.sheet.now a.out.now 12 e) }
 
 pub returns-then-out-pairs : goal.returns-then-out-pairs
@@ -32,7 +32,7 @@ returns-then-out-pairs c =
     let t = terms a.filled in
     let s = a.sheet.now in
     let m = told-count _ (length (records_of s)) _ (sym (ap measured_answer c.in-Pairs.is) ∙ c.measure-found.ensures) in
-    let e = short t s (length a.out.now) (omega (arith, c.if-sheet-ne0.false)) (omega (arith, c.if-sheet-gt6144.false)) m.0 (omega (arith, m.1, c.if-out-pairs.true)) in
+    let e = short t s (length a.out.now) (omega arith) (omega arith) m.0 (omega (arith, m.1, c.if-out-pairs.true)) in
     record { answer = sym e; written = sym (kept t s a.out.now 14 e) }
 
 pub put_steps-requires : goal.put_steps-requires
@@ -41,7 +41,7 @@ put_steps-requires c =
     let s = a.sheet.now in
     let t = terms a.filled in
     let m = told-count (first_fault t (steps_of s)) (length (records_of s)) _ (sym (ap measured_answer c.in-Pairs.is) ∙ c.measure-found.ensures) in
-    ((omega arith, omega (arith, c.if-sheet-gt6144.false)), each_keeps s _ ((sound_exactly t (steps_of s)).0 m.0).0)
+    ((omega arith, omega arith), each_keeps s _ ((sound_exactly t (steps_of s)).0 m.0).0)
 
 pub returns-in-Faulty : goal.returns-in-Faulty
 returns-in-Faulty c =
@@ -49,7 +49,7 @@ returns-in-Faulty c =
     let t = terms a.filled in
     let s = a.sheet.now in
     let f = told-fault _ (length (records_of s)) _ _ (sym (ap measured_answer c.in-Faulty.is) ∙ c.measure-found.ensures) in
-    let e = breaks t s (length a.out.now) (omega (arith, c.if-sheet-ne0.false)) (omega (arith, c.if-sheet-gt6144.false)) _ _ f in
+    let e = breaks t s (length a.out.now) (omega arith) (omega arith) _ _ f in
     record { answer = sym e; written = sym (kept_at t s a.out.now _ _ e) }
 
 pub returns-else-out-pairs : goal.returns-else-out-pairs
@@ -58,5 +58,5 @@ returns-else-out-pairs c =
     let t = terms a.filled in
     let s = a.sheet.now in
     let m = told-count _ (length (records_of s)) _ (sym (ap measured_answer c.in-Pairs.is) ∙ c.measure-found.ensures) in
-    let e = all t s (length a.out.now) (omega (arith, c.if-sheet-ne0.false)) (omega (arith, c.if-sheet-gt6144.false)) m.0 (omega (arith, m.1, c.if-out-pairs.false)) in
+    let e = all t s (length a.out.now) (omega arith) (omega arith) m.0 (omega (arith, m.1, c.if-out-pairs.false)) in
     record { answer = ap accepted m.1 ∙ sym e; written = filled t s a.out.now (length (records_of s)) (translates t s (length a.out.now) _ e) c.put_steps.ensures }
