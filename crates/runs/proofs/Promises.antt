@@ -9,7 +9,8 @@ use Rattle.machine.specs.declared.Outcome.{Outcome}
 use Rattle.machine.specs.declared.Outcome.TheVariants.{Done, Refused as Stopped}
 use Rattle.runs.specs.Answers.{ending_of}
 use Rattle.runs.specs.Run.{Run, run_of}
-use Rattle.runs.specs.Promises.{RunsApart, RunKept, RunMarked, GoesOn}
+use Rattle.runs.specs.Promises.{RunsApart, RunKept, RunMarked, SameControl, GoesOn}
+use Rattle.runs.proofs.Control.{same-control}
 use Rattle.runs.proofs.Marks.{stays, turned, turns}
 use Rattle.runs.proofs.Runs.{run-kept, run-goes-on}
 
@@ -37,6 +38,9 @@ run_marked code start budget s =
       (λ m. ((λ marked. turned r.executed rest s r.state k m marked), λ p. turns r.executed rest s r.state k m p.at p.among p.reached p.steps p.moves)),
       λ m. stays r.executed rest s r.state k m,
     )
+
+pub same_control : SameControl
+same_control = same-control
 
 pub goes_on : GoesOn
 goes_on = run-goes-on

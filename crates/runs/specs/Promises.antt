@@ -1,6 +1,6 @@
 -- Promises beyond the contract; proofs/Promises.antt proves each under its name.
 -- Assumes nothing.
-use Rattle.std.specs.Prelude.{true, false, List, ◌≡◌, ℕ, ◌+◌, ◌*◌, ◌<◌, get_or, drop}
+use Rattle.std.specs.Prelude.{true, false, List, ◌≡◌, ℕ, ◌+◌, ◌*◌, ◌<◌, length, get_or, drop}
 use Rattle.laws.specs.Answer.{accepted}
 use Rattle.machine.specs.State.{State}
 use Rattle.machine.specs.Promises.{PairMoves}
@@ -33,6 +33,15 @@ RunMarked =
     → let r = run_of code start s budget in
     let Moved = SomeMoves r.executed (drop (2 * start) code) s in
     (s.mark ≡ false → (r.state.mark ≡ true → Moved) × (Moved → r.state.mark ≡ true)) × (s.mark ≡ true → r.state.mark ≡ true)
+
+-- How a run goes does not depend on what the registers hold: of any halfwords, from any start, with any budget, two files of
+-- one length, with any marks, give the same ending after the same number of pairs.
+abbrev pub SameControl : Type 0
+SameControl =
+    (code : List ℕ) (start budget : ℕ) (s t : State) → length s.file ≡ length t.file
+    → let r = run_of code start s budget in
+    let q = run_of code start t budget in
+    (r.ending ≡ q.ending) × (r.executed ≡ q.executed)
 
 -- Where a run was done, or its budget used up, a later call from the pair after its last, with its file and mark, goes on:
 -- the two end as one run with both budgets added does, with its file and mark, and their counts add up to its.

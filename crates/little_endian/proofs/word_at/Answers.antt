@@ -1,4 +1,3 @@
-use borrow.Author.Rules.{rules}
 use Rattle.little_endian.specs.Word.{word_at}
 use Rattle.little_endian.proofs.word_at.Goals as goal
 

@@ -1,7 +1,6 @@
 use mathlib.Core.Path.{refl, sym, ◌∙◌}
 use native.Mathlib.Omega.{arith}
 use lib.ListN.{length-append}
-use borrow.Author.Rules.{rules}
 use Rattle.recipes.specs.Pairs.{join_pairs, recipe_pairs}
 use Rattle.measure.proofs.of_half.Goals as goal
 

@@ -2,7 +2,6 @@ use mathlib.Core.Path.{sym}
 use Prim.Native.Nat.{◌+◌, ◌*◌}
 use native.Mathlib.Omega.{arith}
 use lib.ListN.{length-append}
-use borrow.Author.Rules.{rules}
 use Rattle.recipes.specs.Pairs.{pair_table, pairs_by}
 use Rattle.recipes.proofs.ByKind.{one-pair}
 use Rattle.steps.proofs.Kept.{kind-small}

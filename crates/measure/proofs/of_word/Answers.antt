@@ -1,6 +1,5 @@
 use native.Mathlib.Omega.{arith}
 use lib.ListN.{length-append}
-use borrow.Author.Rules.{rules}
 use Rattle.recipes.specs.Pairs.{word_pairs}
 use Rattle.measure.proofs.of_word.Goals as goal
 

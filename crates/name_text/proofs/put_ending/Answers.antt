@@ -1,11 +1,11 @@
-use mathlib.Core.Path.{◌≡◌, refl}
-use Prim.Native.Nat.{◌+◌, ◌-◌, ◌≤◌}
+use mathlib.Core.Path.{refl}
+use Prim.Native.Nat.{◌+◌, ◌≤◌}
 use native.Mathlib.Omega.{arith}
-use lib.ListN.{length, take, drop}
+use lib.ListN.{length, drop}
 use lib.Seq.{take_all}
 use borrow.Author.Rules.{rules}
 use Rattle.names.specs.Names.{codes, name_of}
-use Rattle.name_text.proofs.Endings.{Ready, ready, ending-turn, ready-end}
+use Rattle.name_text.proofs.Endings.{ready, ending-turn, ready-end}
 use Rattle.name_text.proofs.Names.{ending-length}
 use Rattle.name_text.proofs.put_ending.Goals as goal
 

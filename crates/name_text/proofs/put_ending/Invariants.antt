@@ -1,12 +1,8 @@
-use mathlib.Core.Path.{◌≡◌, refl}
+use mathlib.Core.Path.{◌≡◌}
 use Prim.Native.Nat.{◌+◌, ◌-◌, ◌≤◌}
-use native.Mathlib.Omega.{arith}
 use lib.ListN.{length, take, drop}
-use lib.Seq.{take_all}
-use borrow.Author.Rules.{rules}
 use Rattle.names.specs.Names.{codes, name_of}
-use Rattle.name_text.proofs.Endings.{Ready, ready, ending-turn, ready-end}
-use Rattle.name_text.proofs.Names.{ending-length}
+use Rattle.name_text.proofs.Endings.{Ready}
 use Rattle.name_text.proofs.put_ending.Given as goal
 
 abbrev pub invariant-loop-j : goal.invariant-loop-j

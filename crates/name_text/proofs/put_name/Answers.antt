@@ -3,7 +3,6 @@ use mathlib.Core.Path.{sym, ap, ◌∙◌}
 use Prim.Native.Nat.{ℕ}
 use native.Mathlib.Omega.{arith}
 use lib.ListN.{take, drop, take-append-drop}
-use borrow.Author.Rules.{rules}
 use Rattle.names.proofs.Spellings.{no_name}
 use Rattle.names.specs.Names.{codes, name_of}
 use Rattle.name_text.proofs.Names.{begins}

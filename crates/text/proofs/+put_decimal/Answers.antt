@@ -1,7 +1,5 @@
 use mathlib.Core.Path.{sym}
-use Prim.Native.Nat.{ℕ, ◌<◌}
 use native.Mathlib.Omega.{arith}
-use borrow.Author.Rules.{rules}
 use Rattle.text.proofs.Decimal.{decimal-myriad, twenty}
 use Rattle.laws.proofs.Placed.{then, widen, respell}
 use Rattle.text.proofs.+put_decimal.Goals as goal

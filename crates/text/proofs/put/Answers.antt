@@ -1,4 +1,3 @@
-use borrow.Author.Rules.{rules}
 use Rattle.laws.proofs.Placed.{one-past}
 use Rattle.text.proofs.put.Goals as goal
 

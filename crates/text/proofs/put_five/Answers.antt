@@ -1,7 +1,6 @@
 use mathlib.Core.Path.{sym}
 use Prim.Native.Nat.{◌/◌}
 use native.Mathlib.Omega.{arith}
-use borrow.Author.Rules.{rules}
 use Rattle.text.proofs.Decimal.{decimal-one, decimal-hundred, decimal-myriad, within}
 use Rattle.laws.proofs.Placed.{then, widen, respell}
 use Rattle.text.proofs.put_five.Goals as goal

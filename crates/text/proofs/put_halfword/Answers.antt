@@ -1,4 +1,3 @@
-use borrow.Author.Rules.{rules}
 use Rattle.text.specs.Text.{hex4}
 use Rattle.laws.proofs.Placed.{then}
 use Rattle.text.proofs.put_halfword.Goals as goal

@@ -1,4 +1,3 @@
-use borrow.Author.Rules.{rules}
 use Rattle.text.specs.Text.{minus}
 use Rattle.laws.proofs.Placed.{nothing}
 use Rattle.text.proofs.put_minus.Goals as goal

@@ -1,5 +1,4 @@
 use mir.Facts.{to_z-of_z}
-use borrow.Author.Rules.{rules}
 use Rattle.insn.proofs.Signs.{flip_is, flip-fits, pos-asks, neg-asks}
 use Rattle.laws.proofs.Placed.{then, respell}
 use Rattle.text.proofs.Signs.{neg-fits, pos-text, neg-text, signed-short}

@@ -1,9 +1,6 @@
-use mathlib.Core.Path.{◌≡◌, refl}
-use Prim.Native.Nat.{◌-◌, ◌≤◌}
+use mathlib.Core.Path.{refl}
 use native.Mathlib.Omega.{arith}
-use lib.ListN.{length, take}
 use borrow.Author.Rules.{rules}
-use Rattle.laws.specs.Placed.{Placed}
 use Rattle.laws.proofs.Placed.{nothing, copied, all-copied}
 use Rattle.text.proofs.put_text.Goals as goal
 

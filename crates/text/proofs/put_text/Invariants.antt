@@ -1,10 +1,7 @@
-use mathlib.Core.Path.{◌≡◌, refl}
+use mathlib.Core.Path.{◌≡◌}
 use Prim.Native.Nat.{◌-◌, ◌≤◌}
-use native.Mathlib.Omega.{arith}
 use lib.ListN.{length, take}
-use borrow.Author.Rules.{rules}
 use Rattle.laws.specs.Placed.{Placed}
-use Rattle.laws.proofs.Placed.{nothing, copied, all-copied}
 use Rattle.text.proofs.put_text.Given as goal
 
 abbrev pub invariant-loop-j : goal.invariant-loop-j

@@ -1,4 +1,3 @@
-use borrow.Author.Rules.{rules}
 use Rattle.laws.proofs.Placed.{then}
 use Rattle.text.proofs.put_two.Goals as goal
 

@@ -1,7 +1,6 @@
 use Prim.Native.Nat.{◌+◌}
 use native.Mathlib.Omega.{arith}
 use lib.ListN.{set, length-set}
-use borrow.Author.Rules.{rules}
 use Rattle.laws.proofs.Placed.{then, four}
 use Rattle.text.proofs.put_word.Goals as goal
 

@@ -1,7 +1,6 @@
 use mathlib.Core.Path.{sym, ◌∙◌, ap}
 use native.Mathlib.Omega.{arith}
 use lib.ListN.{length}
-use borrow.Author.Rules.{rules}
 use Rattle.laws.specs.AnswerAt.{accepted}
 use Rattle.measure.specs.Own.{measured_answer}
 use Rattle.steps.specs.Faults.{terms, first_fault}
