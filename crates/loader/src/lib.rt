@@ -26,7 +26,7 @@ fn fail(what: &[u8], why: &[u8]) {
 }
 
 // Says why a file was not opened, without the error's number.
-fn fail_by(rt: &impl Alloc, path: &str, e: Error) {
+fn say_why(rt: &impl Alloc, path: &str, e: Error) {
     match e.to_string(rt.alloc()) {
         Ok(text) => {
             let all = text.as_str();
@@ -41,12 +41,12 @@ fn fail_by(rt: &impl Alloc, path: &str, e: Error) {
 }
 
 // Opens the file at a path; says why where it cannot.
-fn opened<R: Files + Alloc>(rt: &R, path: &[u8]) -> Option<R::File> {
+fn open_file<R: Files + Alloc>(rt: &R, path: &[u8]) -> Option<R::File> {
     match std::str::from_utf8(path) {
         Ok(text) => match File::open(rt, text) {
             Ok(file) => Some(file),
             Err(e) => {
-                fail_by(rt, text, e);
+                say_why(rt, text, e);
                 None
             }
         },
@@ -81,7 +81,7 @@ fn read_file(rt: &(impl Env + Files + Alloc), k: usize, buf: &mut [u8]) -> usize
     let mut path = io::buffer();
     let none = buf.len() + 1;
     match rt.arg(k, &mut path) {
-        Ok(n) => match opened(rt, &path[..n]) {
+        Ok(n) => match open_file(rt, &path[..n]) {
             Some(mut file) => read_from(&mut file, buf),
             None => none,
         },

@@ -5,11 +5,8 @@
 // afterwards; after + the mark turns, and those after ! are refused.
 #![tactic(auto)]
 
-use replay::{put, put_count};
+use replay::{STDIN, put, put_count};
 use vectors::{count_meanings, passes, passes_unlike};
-
-// Where the vectors come from.
-const STDIN: i32 = 0;
 
 // 1 for a line whose vector passes; else 0, and the line is printed.
 fn tell(line: &[u8], passed: bool) -> u64 {

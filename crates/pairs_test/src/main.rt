@@ -3,10 +3,7 @@
 // then kind and value of three places.
 #![tactic(auto)]
 
-use replay::{field, put, put_count, put_refused, record};
-
-// Where the lines come from.
-const STDIN: i32 = 0;
+use replay::{STDIN, field, put, put_count, put_refused, record};
 
 // How many lines gave each answer, 0 to 9, under edition C and under B; and how many were not as the list says.
 #[derive(Clone, Copy)]

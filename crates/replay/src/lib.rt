@@ -4,8 +4,10 @@
 ghost use Rattle.std.specs.Prelude.{◌≡◌, ◌<◌};
 ghost use Rattle.replay.specs.Lines.{number_at, FileAt, same_numbers, record_in, digit_value};
 
-// Where everything is written.
-const STDOUT: i32 = 1;
+// The numbers of the standard streams: where a test's cases come from, and where everything is written.
+pub const STDIN: i32 = 0;
+
+pub const STDOUT: i32 = 1;
 
 // Writes a text.
 pub fn put(text: &[u8]) {

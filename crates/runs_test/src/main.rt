@@ -5,11 +5,8 @@
 #![tactic(auto)]
 
 use machine::Outcome;
-use replay::{Tally, field, file_at, mark_at, put_tally, same_file, tallied};
+use replay::{STDIN, Tally, field, file_at, mark_at, put_tally, same_file, tallied};
 use runs::{Ran, run};
-
-// Where the runs come from.
-const STDIN: i32 = 0;
 
 // How a run ended: the refusal's number or 0, and the pairs executed.
 #[derive(Clone, Copy)]

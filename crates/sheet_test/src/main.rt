@@ -2,11 +2,8 @@
 // A case is two lines: 1110 bytes with what is handed in and what comes back, then the sheet in hexadecimal.
 #![tactic(auto)]
 
-use replay::{field, put, put_count, put_refused};
+use replay::{STDIN, field, put, put_count, put_refused};
 use sheet_cases::{agrees, bytes_of};
-
-// Where the cases come from.
-const STDIN: i32 = 0;
 
 // How many cases there were and gave each answer, 0 to 16; the steps of those that were done, the pairs executed, and
 // how many cases were not as the model says.

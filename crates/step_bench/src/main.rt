@@ -6,13 +6,8 @@
 #![tactic(auto)]
 
 use machine::Outcome;
-use replay::field;
+use replay::{STDIN, STDOUT, field};
 use std::rt::Env;
-
-// Where the list comes from, and where the line is written.
-const STDIN: i32 = 0;
-
-const STDOUT: i32 = 1;
 
 #[derive(Clone, Copy)]
 struct Tally {

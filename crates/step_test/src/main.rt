@@ -3,10 +3,7 @@
 #![tactic(auto)]
 
 use machine::Outcome;
-use replay::{Tally, field, file_at, mark_at, put_tally, same_file, tallied};
-
-// Where the cases come from.
-const STDIN: i32 = 0;
+use replay::{STDIN, Tally, field, file_at, mark_at, put_tally, same_file, tallied};
 
 // Whether a line's pair leaves the file and the mark that the line says.
 fn agrees(line: &[u8; 1040]) -> bool {
