@@ -7,15 +7,16 @@ use Prim.Native.Nat.{ℕ, ◌+◌, ◌-◌, ◌*◌, ◌%◌, ◌^◌, ◌<◌, 
 use native.Mathlib.Omega.{arith}
 use lib.Dec.{eqb, ltb, leb}
 use lib.IntN.{ℤ, pos}
-use mir.Facts.{to_z-of_z}
-use mir.Syntax.{w64}
-use mir.Val.{SFits, to_z, of_z}
-use borrow.Author.Tests.{eqb-true, eqb-false, leb-true, eq-eqb, ne_eqb, lt-ltb, le-ltb}
+use borrow.Author.Tests.{eqb-true, leb-true, le-ltb}
 use Rattle.laws.specs.Answer.{Answer, accepted, refused}
 use Rattle.laws.specs.Choice.{choose, both}
 use Rattle.laws.proofs.Range.{values, agree, agree2}
 use Rattle.insn.specs.declared.Operand.TheVariants.{Imm}
-use Rattle.laws.specs.Search.{Found, at, none}
+use Rattle.insn.specs.declared.Width.{Width}
+use Rattle.insn.specs.declared.Width.TheVariants.{B8, B16, B32, B64}
+use Rattle.insn.specs.Widths.{bits_at, size_of, bits_of}
+use Rattle.insn.proofs.Sizes.{size-le}
+use Rattle.laws.specs.Search.{at, none}
 use Rattle.laws.proofs.Search.{candidate, nothing}
 use Rattle.laws.proofs.Never.{wrong}
 use Rattle.tables.specs.declared.ShiftClass.{ShiftClass}
@@ -47,10 +48,19 @@ up Convert = false
 abbrev guess : ShiftClass → ℕ → ℕ → ℕ
 guess class column k = choose (up class) (span class column + k) (2 * span class column - k) % 128
 
-abbrev pub placed : ShiftClass → ℕ → ℕ → Found
-placed class column k =
-    choose (up class) (choose (ltb k (span class column)) (at (span class column + k)) none)
-    (choose (eqb k 0) none (choose (ltb (span class column) k) none (at (2 * span class column - k))))
+-- the code's tests: the amounts 1 to n count down from 2n, and those below n up from it
+abbrev counted-down : ℕ → ℕ → Answer ℕ
+counted-down n k = choose (eqb k 0) (refused 9) (choose (ltb n k) (refused 9) (accepted (2 * n - k)))
+
+abbrev counted-up : ℕ → ℕ → Answer ℕ
+counted-up n k = choose (ltb k n) (accepted (n + k)) (refused 9)
+
+abbrev pub tests : ShiftClass → ℕ → ℕ → Answer ℕ
+tests Right column k = counted-down (bits_at column) k
+tests Left column k = counted-up (bits_at column) k
+tests Narrow column k = choose (eqb column 3) (refused 9) (counted-down (bits_at column) k)
+tests Long column k = choose (eqb column 3) (refused 9) (counted-up (bits_at column) k)
+tests Convert column k = choose (eqb column 0) (counted-down 32 k) (refused 9)
 
 abbrev l : ℕ → ℕ
 l t = bit 6 t
@@ -74,16 +84,16 @@ back Long = agree (again Long) (λ (t : ℕ). t) 128 refl
 back Convert = agree (again Convert) (λ (t : ℕ). t) 128 refl
 
 -- the formula's place, if it is read so
-abbrev checked : ShiftClass → ℕ → ℕ → Found
-checked class column k = let g = guess class column k in choose (amount_reads class column (pos k) (l g) (i g)) (at g) none
+abbrev checked : ShiftClass → ℕ → ℕ → Answer ℕ
+checked class column k = let g = guess class column k in or_nine (choose (amount_reads class column (pos k) (l g) (i g)) (at g) none)
 
-tested : (class : ShiftClass) (column k : ℕ) → column < 4 → k < 65 → checked class column k ≡ placed class column k
+tested : (class : ShiftClass) (column k : ℕ) → column < 4 → k < 65 → checked class column k ≡ tests class column k
 unfolding values amount_reads forbidden is_escape column_of size_code right_end left_start
-tested Right = agree2 (checked Right) (placed Right) 4 65 refl
-tested Left = agree2 (checked Left) (placed Left) 4 65 refl
-tested Narrow = agree2 (checked Narrow) (placed Narrow) 4 65 refl
-tested Long = agree2 (checked Long) (placed Long) 4 65 refl
-tested Convert = agree2 (checked Convert) (placed Convert) 4 65 refl
+tested Right = agree2 (checked Right) (tests Right) 4 65 refl
+tested Left = agree2 (checked Left) (tests Left) 4 65 refl
+tested Narrow = agree2 (checked Narrow) (tests Narrow) 4 65 refl
+tested Long = agree2 (checked Long) (tests Long) 4 65 refl
+tested Convert = agree2 (checked Convert) (tests Convert) 4 65 refl
 
 -- no amount is above 64
 small : (class : ShiftClass) (t : ℕ) → t < 128 → leb (amount_of class (l t) (i t)) 64 ≡ true
@@ -121,90 +131,40 @@ module _ (class : ShiftClass) (column : ℕ) where
       let same : amount_of class (l t) (i t) ≡ k = cc r.its-amount in
       sym (rw (r.allowed, r.sized, r.its-column, same) at (back class t h))
 
-  pub amount-place : (k : ℕ) → column < 4 → k ≤ 64 → or_nine (placed class column k) ≡ amount_in class column (Imm (pos k))
+  pub amount-place : (k : ℕ) → column < 4 → k ≤ 64 → tests class column k ≡ amount_in class column (Imm (pos k))
   unfolding amount_in
   amount-place k hc hk =
-      ap or_nine
-      (sym
-      (candidate (λ (t : ℕ). amount_reads class column (pos k) (l t) (i t)) 128 (guess class column k) (omega arith) (only-place k)
-      ∙ tested class column k hc (omega arith)))
+      sym
+      (ap or_nine (candidate (λ (t : ℕ). amount_reads class column (pos k) (l t) (i t)) 128 (guess class column k) (omega arith) (only-place k))
+      ∙ tested class column k hc (omega arith))
 
   -- a number outside 0 to 64 has no place
-  pub outside-nine : (v : ℤ) → is_outside v ≡ true → amount_in class column (Imm v) ≡ refused 9
+  pub outside_nine : (v : ℤ) → is_outside v ≡ true → amount_in class column (Imm v) ≡ refused 9
   unfolding amount_in
-  outside-nine v out = ap or_nine (nothing (λ (t : ℕ). amount_reads class column v (l t) (i t)) 128 (λ t h. go t h (amount_reads class column v (l t) (i t)) refl))
+  outside_nine v out = ap or_nine (nothing (λ (t : ℕ). amount_reads class column v (l t) (i t)) 128 (λ t h. go t h (amount_reads class column v (l t) (i t)) refl))
     where
       go : (t : ℕ) → t < 128 → (b : Bool) → amount_reads class column v (l t) (i t) ≡ b → b ≡ false
       go t h true e = wrong (sym (le-ltb 64 (amount_of class (l t) (i t)) (leb-true (amount_of class (l t) (i t)) 64 (small class t h))) ∙ ap is_outside (says v t e).its-amount ∙ out)
       go t h false e = refl
 
--- the code's tests, as a search's outcome
-down : (n k : ℕ) → choose (eqb k 0) (refused 9) (choose (ltb n k) (refused 9) (accepted (2 * n - k))) ≡ or_nine (choose (eqb k 0) none (choose (ltb n k) none (at (2 * n - k))))
-down n k = go (eqb k 0) (ltb n k)
-  where
-    go : (a b : Bool) → choose a (refused 9) (choose b (refused 9) (accepted (2 * n - k))) ≡ or_nine (choose a none (choose b none (at (2 * n - k))))
-    go true b = refl
-    go false true = refl
-    go false false = refl
+-- so for the elements of a width
+pub width-place : (class : ShiftClass) (w : Width) (k : ℕ) → k ≤ 64 → tests class (size_of w) k ≡ amount_in class (size_of w) (Imm (pos k))
+width-place class w k h = amount-place class (size_of w) k (omega (arith, size-le w)) h
 
-upward : (n k : ℕ) → choose (ltb k n) (accepted (n + k)) (refused 9) ≡ or_nine (choose (ltb k n) (at (n + k)) none)
-upward n k = go (ltb k n)
-  where
-    go : (a : Bool) → choose a (accepted (n + k)) (refused 9) ≡ or_nine (choose a (at (n + k)) none)
-    go true = refl
-    go false = refl
+pub narrow-place : (w : Width) (k : ℕ) → k ≤ 64 → w ≢ B64 → counted-down (bits_of w) k ≡ amount_in Narrow (size_of w) (Imm (pos k))
+narrow-place B8 k h n = width-place Narrow B8 k h
+narrow-place B16 k h n = width-place Narrow B16 k h
+narrow-place B32 k h n = width-place Narrow B32 k h
+narrow-place B64 k h n = absurd (n refl)
 
-bits : (column : ℕ) → column < 4 → 8 * 2 ^ column % 256 ≡ 8 * 2 ^ column
-unfolding values
-bits = agree (λ (c : ℕ). 8 * 2 ^ c % 256) (λ (c : ℕ). 8 * 2 ^ c) 4 refl
+pub long-place : (w : Width) (k : ℕ) → k ≤ 64 → w ≢ B64 → counted-up (bits_of w) k ≡ amount_in Long (size_of w) (Imm (pos k))
+long-place B8 k h n = width-place Long B8 k h
+long-place B16 k h n = width-place Long B16 k h
+long-place B32 k h n = width-place Long B32 k h
+long-place B64 k h n = absurd (n refl)
 
-pub bits_below : (column : ℕ) → column < 4 → 8 * 2 ^ column % 256 ≤ 64
-unfolding values
-bits_below column h = leb-true (8 * 2 ^ column % 256) 64 (agree (λ (c : ℕ). leb (8 * 2 ^ c % 256) 64) (λ (c : ℕ). true) 4 refl column h)
-
-module _ (column k : ℕ) (hc : column < 4) (hk : k ≤ 64) where
-  abbrev counted-down : ℕ → Answer ℕ
-  counted-down n = choose (eqb k 0) (refused 9) (choose (ltb n k) (refused 9) (accepted (2 * n - k)))
-
-  abbrev counted-up : ℕ → Answer ℕ
-  counted-up n = choose (ltb k n) (accepted (n + k)) (refused 9)
-
-  pub right-place : counted-down (8 * 2 ^ column % 256) ≡ amount_in Right column (Imm (pos k))
-  right-place = rw (bits column hc) (down (8 * 2 ^ column) k ∙ amount-place Right column k hc hk)
-
-  pub left-place : counted-up (8 * 2 ^ column % 256) ≡ amount_in Left column (Imm (pos k))
-  left-place = rw (bits column hc) (upward (8 * 2 ^ column) k ∙ amount-place Left column k hc hk)
-
-  pub narrow-place : column ≢ 3 → counted-down (8 * 2 ^ column % 256) ≡ amount_in Narrow column (Imm (pos k))
-  narrow-place n = rw (bits column hc) (down (8 * 2 ^ column) k ∙ rw (ne_eqb column 3 n) at (amount-place Narrow column k hc hk))
-
-  pub long-place : column ≢ 3 → counted-up (8 * 2 ^ column % 256) ≡ amount_in Long column (Imm (pos k))
-  long-place n = rw (bits column hc) (upward (8 * 2 ^ column) k ∙ rw (ne_eqb column 3 n) at (amount-place Long column k hc hk))
-
-  pub convert-place : column ≡ 0 → counted-down 32 ≡ amount_in Convert column (Imm (pos k))
-  convert-place e = down 32 k ∙ rw (eq-eqb column 0 e) at (amount-place Convert column k hc hk)
-
-  -- a blank column has no amount
-  no-down : refused 9 ≡ or_nine (choose (eqb k 0) none (choose (ltb 0 k) none (at (2 * 0 - k))))
-  no-down = go (eqb k 0) refl
-    where
-      go : (b : Bool) → eqb k 0 ≡ b → refused 9 ≡ or_nine (choose b none (choose (ltb 0 k) none (at (2 * 0 - k))))
-      go true e = refl
-      go false e = let ne = eqb-false k 0 e in rw (lt-ltb 0 k (omega arith))
-
-  pub narrow-none : column ≡ 3 → refused 9 ≡ amount_in Narrow column (Imm (pos k))
-  narrow-none e = no-down ∙ rw (eq-eqb column 3 e) at (amount-place Narrow column k hc hk)
-
-  no-up : refused 9 ≡ or_nine (choose (ltb k 0) (at (0 + k)) none)
-  no-up = rw (le-ltb k 0 (omega arith))
-
-  pub long-none : column ≡ 3 → refused 9 ≡ amount_in Long column (Imm (pos k))
-  long-none e = no-up ∙ rw (eq-eqb column 3 e) at (amount-place Long column k hc hk)
-
-  pub convert-none : column ≢ 0 → refused 9 ≡ amount_in Convert column (Imm (pos k))
-  convert-none n = no-down ∙ rw (ne_eqb column 0 n) at (amount-place Convert column k hc hk)
-
--- a number that was handed on as 64 bits
-pub handed-on : (class : ShiftClass) (column : ℕ) {v : ℤ} {x : Answer ℕ} → SFits w64 v
-    → x ≡ amount_in class column (Imm (to_z w64 (of_z w64 v))) → x ≡ amount_in class column (Imm v)
-handed-on class column f e = rw (to_z-of_z f) at e
+pub convert-none : (w : Width) (k : ℕ) → k ≤ 64 → w ≢ B8 → refused 9 ≡ amount_in Convert (size_of w) (Imm (pos k))
+convert-none B8 k h n = absurd (n refl)
+convert-none B16 k h n = width-place Convert B16 k h
+convert-none B32 k h n = width-place Convert B32 k h
+convert-none B64 k h n = width-place Convert B64 k h

@@ -1,3 +1,2 @@
 pub mod Amounts
 pub mod Promises
-pub mod Range

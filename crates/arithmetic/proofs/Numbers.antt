@@ -1,6 +1,6 @@
 -- Laws on numbers of w bits, each over the width.
 -- Assumes nothing.
-use Rattle.std.proofs.Common.{◌≡◌, ℕ, ◌+◌, ◌-◌, ◌*◌, ◌/◌, ◌%◌, ◌^◌, ◌<◌, ◌≤◌, sym, ap, ◌∙◌, subst, lt_of_lt_of_le, lt_of_le_of_lt, le_of_lt, mod-lt, mul_assoc, mul_comm, add-mul, add_comm, mul-le-mul_left, mul-lt-mul_of_pos_right, div-add-mod', mul-add, mul_right_comm, arith, pow_pos, pow_mono, pow-add, shl_lt, shl_exact}
+use Rattle.std.proofs.Common.{◌≡◌, ℕ, ◌+◌, ◌-◌, ◌*◌, ◌/◌, ◌%◌, ◌^◌, ◌<◌, ◌≤◌, sym, ap, ◌∙◌, subst, lt_of_lt_of_le, mod-lt, mul_assoc, mul_comm, add-mul, div-add-mod', mul-add, mul_right_comm, arith, pow_mono, pow-add, shl_exact}
 use native.Mathlib.Nat.{mul-mul-mul_comm, mod-add-mod, add-mod-mod, add-mod_right, add-mul-mod_self_right, mul-mod_left, div-eq_of_lt}
 use lib.Pow.{mod-mod-pow, ones_split, high, ones_lt}
 
@@ -48,9 +48,6 @@ module _ (m : ℕ) (z : 0 < m) where
       ∙ gone y b
 
 -- a product by halves of 32 bits
-pub below : (k : ℕ) {a b : ℕ} → a < 2 ^ k → b < 2 ^ k → a * b < 2 ^ (k + k)
-below k {a} {b} ha hb = rw (pow-add 2 k k) (lt_of_le_of_lt (mul-le-mul_left a (le_of_lt hb)) (mul-lt-mul_of_pos_right ha (pow_pos k)))
-
 expand : (a b c d h : ℕ) → (a * h + b) * (c * h + d) ≡ a * c * (h * h) + a * d * h + (b * c * h + b * d)
 expand a b c d h = rw (add-mul, mul-add, mul-add, mul-mul-mul_comm, mul_right_comm a h d, ← mul_assoc b c h)
 
@@ -59,12 +56,6 @@ product_is x y =
     ap (λ (n : ℕ). n * y) (sym (div-add-mod' x (2 ^ 32))) ∙ ap (λ (n : ℕ). (x / 2 ^ 32 * 2 ^ 32 + x % 2 ^ 32) * n) (sym (div-add-mod' y (2 ^ 32)))
     ∙ expand (x / 2 ^ 32) (x % 2 ^ 32) (y / 2 ^ 32) (y % 2 ^ 32) (2 ^ 32)
 
--- a lane put at its place, and the sum with what stands above it
+-- a lane put at its place
 pub placed : (w at r : ℕ) → at + w ≤ 64 → r < 2 ^ w → (r * 2 ^ at) % 2 ^ 64 ≡ 2 ^ at * r
 placed w at r h p = shl_exact w at 64 p (omega arith) ∙ mul_comm r (2 ^ at)
-
-pub placed-fits : (w at r o : ℕ) → at + w ≤ 64 → r < 2 ^ w → o + 2 ^ (at + w) ≤ 2 ^ 64 → o + (r * 2 ^ at) % 2 ^ 64 < 2 ^ 64
-placed-fits w at r o h p q =
-    let e = placed w at r h p in
-    let l : 2 ^ at * r < 2 ^ (at + w) = rw (mul_comm (2 ^ at) r, add_comm at w) (shl_lt w at p) in
-    omega arith

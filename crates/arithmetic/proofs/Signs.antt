@@ -20,7 +20,7 @@ module _ (w a b : ℕ) where
   unfolding modulo
   minus-up h = rw (minus_is a b, le-ltb a b h)
 
-  minus-down : a < b → modulo w (pos a -ℤ pos b) ≡ 2 ^ w - 1 - (b - suc a) % 2 ^ w
+  pub minus-down : a < b → modulo w (pos a -ℤ pos b) ≡ 2 ^ w - 1 - (b - suc a) % 2 ^ w
   unfolding modulo
   minus-down h = rw (minus_is a b, lt-ltb a b h)
 

@@ -1,13 +1,13 @@
 -- Whole numbers as the code's i64 has them: bits that are read in two's complement.
 -- Assumes nothing.
-use Rattle.std.proofs.Common.{◌≡◌, ℕ, suc, ◌-◌, ◌^◌, ◌<◌, ◌≤◌, true, false, ℤ, pos, negsuc, sym, refl, ap, ◌∙◌, lt_of_lt_of_le, arith, pow_mono, w64, SFits, to_z, of_z}
-use lib.Dec.{leb-zero}
-use lib.Signed.{le_z, shr_z, mag_shr}
-use mir.ValLaws.{to_z-of_z, to_z_pos, sfits_le}
-use Rattle.laws.proofs.Never.{wrong}
+use Rattle.std.proofs.Common.{◌≡◌, ℕ, suc, ◌+◌, ◌-◌, ◌%◌, ◌^◌, ◌<◌, ◌≤◌, ℤ, pos, negsuc, sym, refl, ap, ◌∙◌, lt_of_lt_of_le, arith, pow_mono, w64, SFits, to_z, of_z}
+use lib.Signed.{shr_z, mag_shr}
+use mir.ValLaws.{to_z-of_z, sfits_le}
+use Rattle.laws.specs.Signed.{modulo}
 use Rattle.insn.specs.declared.Sign.TheVariants.{Signed}
 use Rattle.arithmetic.specs.Whole.{read_as}
-use Rattle.arithmetic.proofs.Signs.{read_fits}
+use Rattle.arithmetic.proofs.Numbers.{cut64}
+use Rattle.arithmetic.proofs.Signs.{read_fits, minus-of, minus-down}
 
 module _ (w x : ℕ) (z : 0 < w) (h : w ≤ 64) where
   -- a signed lane is an i64 for every width, and so is what a right shift leaves of it
@@ -22,14 +22,14 @@ module _ (w x : ℕ) (z : 0 < w) (h : w ≤ 64) where
       ap (λ (y : ℤ). to_z w64 (of_z w64 (shr_z y m))) (lane-is b)
       ∙ to_z-of_z w64 (shr_z (read_as Signed w x) m) (sfits_le (mag_shr (read_as Signed w x) m) (lane-fits b))
 
--- an i64 by the sign that a test found
-pub not_negative : (z : ℤ) → SFits w64 z → le_z (pos 0) (to_z w64 (of_z w64 z)) ≡ true → (n : ℕ) × (z ≡ pos n) × (to_z w64 (of_z w64 z) ≡ pos n) × (n < 2 ^ 63)
-not_negative (pos n) s t = (n, refl, to_z_pos w64 n s.sfits, s.sfits)
-not_negative (negsuc n) s t = wrong (rw (to_z-of_z w64 (negsuc n) s) at t)
-
-pub negative : (z : ℤ) → SFits w64 z → le_z (pos 0) (to_z w64 (of_z w64 z)) ≡ false → (n : ℕ) × (z ≡ negsuc n) × (to_z w64 (18446744073709551615 - of_z w64 z) ≡ pos n) × (n < 2 ^ 63)
-negative (pos n) s t = wrong (sym (ap (λ (y : ℤ). le_z (pos 0) y) (sym (to_z-of_z w64 (pos n) s)) ∙ t) ∙ leb-zero n)
-negative (negsuc n) s t =
-    let h = s.sfits in
-    let e : 18446744073709551615 - (18446744073709551616 - suc n) ≡ n = omega arith in
-    (n, refl, ap (λ (k : ℕ). to_z w64 k) e ∙ to_z_pos w64 n h, h)
+-- the lowest bits of an i64
+pub low_bits : (w : ℕ) → w ≤ 64 → (z : ℤ) → SFits w64 z → of_z w64 z % 2 ^ w ≡ modulo w z
+unfolding modulo
+low_bits w h (pos n) s = refl
+low_bits w h (negsuc n) s =
+    let l = s.sfits in
+    let r = 2 ^ 64 - suc n in
+    let e : r + suc n ≡ 2 ^ 64 = omega arith in
+    let g : suc n - 1 ≡ n = omega arith in
+    minus-of w 0 (suc n) r (ap (λ (x : ℕ). x % 2 ^ w) e ∙ sym (cut64 (2 ^ 64) w h)) ∙ minus-down w 0 (suc n) (omega arith)
+    ∙ ap (λ (x : ℕ). 2 ^ w - 1 - x % 2 ^ w) g

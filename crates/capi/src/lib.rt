@@ -2,9 +2,11 @@
 #![tactic(auto)]
 
 ghost use Rattle.std.specs.Prelude.{◌≡◌, ℕ, length};
+ghost use Rattle.insn.specs.Refusals.{number};
 ghost use Rattle.editions.specs.Editions.{edition_of};
 ghost use Rattle.decode.specs.Editions.{reading_in};
 ghost use Rattle.runs.specs.Run.{Run, run_of};
+ghost use Rattle.steps.specs.Answers.{answer_at};
 ghost use Rattle.steps.specs.Faults.{terms};
 ghost use Rattle.sheet.specs.Demand3.{Demand3};
 ghost use Rattle.sheet.specs.Evaluation.{evaluation_of, state_left};
@@ -16,11 +18,15 @@ ghost use Rattle.words.specs.Records.{record_of};
 ghost use Rattle.capi.specs.Results.{return_code, record_after, pair_after, end_code, code_at, count_or_place, executed_or0, accepted_or0, mark_in, mark_out, lent};
 
 use editions::edition_of;
-use listing::Listed;
-use machine::Outcome;
-use readings::Reading;
-use translator::Translation;
-use writings::Writing;
+use insn::Refusal;
+use steps::faults::SheetError;
+
+// The code of a refusal: its number.
+fn code_of(f: Refusal) -> u32
+    ensures { result ≡ number f }
+{
+    u32::from(u8::from(f))
+}
 
 // Reads a pair in an edition: 0 and its record, or the refusal's number with the record untouched.
 #[unsafe(no_mangle)]
@@ -34,13 +40,12 @@ pub extern "C" fn bodlixo_read(
     ensures code { result ≡ return_code (reading_in (edition_of edition) hw1 hw2 address) }
     ensures record { out.new ≡ record_after (reading_in (edition_of edition) hw1 hw2 address) out.old }
 {
-    let answer = decode::read(edition_of(edition), hw1, hw2, address);
-    match answer {
-        Reading::Refused(f) => insn::refusal_number(f) as u32,
-        Reading::Read(i) => {
+    match decode::read(edition_of(edition), hw1, hw2, address) {
+        Ok(i) => {
             *out = words::record_words(i);
             0
         }
+        Err(f) => code_of(f),
     }
 }
 
@@ -50,13 +55,12 @@ pub extern "C" fn bodlixo_write(edition: u32, words: &[u64; 10], pair: &mut [u16
     ensures code { result ≡ return_code (writing_in (edition_of edition) (record_of words.now)) }
     ensures pair { pair.new ≡ pair_after (writing_in (edition_of edition) (record_of words.now)) pair.old }
 {
-    let answer = encode::write(edition_of(edition), words::records::record_of(words));
-    match answer {
-        Writing::Refused(f) => insn::refusal_number(f) as u32,
-        Writing::Wrote(hw1, hw2) => {
+    match encode::write(edition_of(edition), words::records::record_of(words)) {
+        Ok((hw1, hw2)) => {
             *pair = [hw1, hw2];
             0
         }
+        Err(f) => code_of(f),
     }
 }
 
@@ -80,11 +84,24 @@ pub extern "C" fn bodlixo_run(
     let ran = runs::run(code, start, file, budget, &mut saturated);
     *mark = saturated as u8;
     *executed = ran.executed;
-    let outcome = ran.outcome;
-    match outcome {
-        Outcome::Done => 0,
-        Outcome::Refused(f) => insn::refusal_number(f) as u32,
+    match ran.outcome {
+        Ok(()) => 0,
+        Err(f) => code_of(f),
     }
+}
+
+// Translates a sheet, and tells the pair count, or the index of the refused step, else 0.
+fn translate(sheet: &[u8], filled: u16, out: &mut [u16], at: &mut u64) -> Result<u64, SheetError>
+    ensures answer { answer_at result ≡ translation_of (terms filled) sheet.now (length out.old) }
+    ensures at { at.new ≡ count_or_place (translation_of (terms filled) sheet.now (length out.old)) }
+    ensures out { out.new ≡ written_of (terms filled) sheet.now out.old }
+{
+    let answer = translator::translate(sheet, filled, out);
+    *at = match answer {
+        Ok(n) => n,
+        Err(e) => e.step.unwrap_or(0),
+    };
+    answer
 }
 
 // Translates a sheet into the output, with the list of the rows that were filled beforehand: 0 and the pair count, or the
@@ -95,20 +112,9 @@ pub extern "C" fn bodlixo_translate(sheet: &[u8], filled: u16, out: &mut [u16], 
     ensures at { at.new ≡ count_or_place (translation_of (terms filled) sheet.now (length out.old)) }
     ensures out { out.new ≡ written_of (terms filled) sheet.now out.old }
 {
-    let answer = translator::translate(sheet, filled, out);
-    match answer {
-        Translation::Pairs(n) => {
-            *at = n;
-            0
-        }
-        Translation::Refused(f) => {
-            *at = 0;
-            insn::refusal_number(f) as u32
-        }
-        Translation::RefusedAt(f, i) => {
-            *at = i;
-            insn::refusal_number(f) as u32
-        }
+    match translate(sheet, filled, out, at) {
+        Ok(_) => 0,
+        Err(e) => code_of(e.cause),
     }
 }
 
@@ -134,23 +140,12 @@ pub extern "C" fn bodlixo_evaluate(
     ensures mark { mark.new ≡ mark_out (mark_in mark.old) }
     ensures demand3 { Demand3 (terms filled) sheet.now out.old (lent file.old mark.old) budget out.new (lent file.new mark.new) (evaluation_of (terms filled) sheet.now out.old (lent file.old mark.old) budget) }
 {
-    let translated = translator::translate(sheet, filled, out);
-    match translated {
-        Translation::Pairs(count) => {
-            *at = count;
-            bodlixo_run(&out[..2 * count as usize], 0, file, budget, mark, executed)
-        }
-        Translation::Refused(cause) => {
-            *at = 0;
+    match translate(sheet, filled, out, at) {
+        Ok(n) => bodlixo_run(&out[..2 * n as usize], 0, file, budget, mark, executed),
+        Err(e) => {
             *executed = 0;
             *mark = (*mark != 0) as u8;
-            insn::refusal_number(cause) as u32
-        }
-        Translation::RefusedAt(cause, step) => {
-            *at = step;
-            *executed = 0;
-            *mark = (*mark != 0) as u8;
-            insn::refusal_number(cause) as u32
+            code_of(e.cause)
         }
     }
 }
@@ -162,15 +157,14 @@ pub extern "C" fn bodlixo_list(input: &[u8], out: &mut [u8], size: &mut u64) -> 
     ensures out { out.new ≡ out_after (listing input.now) out.old }
     ensures size { size.new ≡ accepted_or0 (length_for (listing input.now) out.old) }
 {
-    let answer = listing::list(input, out);
-    match answer {
-        Listed::Length(n) => {
+    match listing::list(input, out) {
+        Ok(n) => {
             *size = n as u64;
             0
         }
-        Listed::TooShort => {
+        Err(f) => {
             *size = 0;
-            14
+            code_of(f)
         }
     }
 }

@@ -2,14 +2,13 @@
 #![tactic(auto)]
 
 ghost use Rattle.std.specs.Prelude.{◌≡◌};
-ghost use Rattle.readings.specs.Answers.{reading_answer};
+ghost use Rattle.insn.specs.Answers.{answer};
 ghost use Rattle.decode.specs.Editions.{is_fused, is_withheld, reading_in};
 ghost use Rattle.decode.specs.Reading.{family_of};
 
-use insn::{Edition, Refusal};
+use insn::{Edition, Insn, Refusal};
 use read_immediates::{modimm, shift};
 use read_registers::{diff, same3};
-use readings::Reading;
 
 // The families of document 01, 'Four families'.
 #[derive(Clone, Copy)]
@@ -22,13 +21,11 @@ pub enum Family {
 }
 
 // The family of a pair, by its fixed bits.
+#[tactic(auto, unfolding(crate::specs::Reading::family_of))]
 pub fn family_of(hw1: u16, hw2: u16) -> Family
     ensures { result ≡ family_of hw1 hw2 }
 {
-    if hw1 / 8192 % 8 != 7 {
-        return Family::NoFamily;
-    }
-    if hw1 / 256 % 16 != 15 {
+    if hw1 / 8192 % 8 != 7 || hw1 / 256 % 16 != 15 {
         return Family::NoFamily;
     }
     if hw1 / 128 % 2 == 0 {
@@ -53,16 +50,7 @@ pub fn family_of(hw1: u16, hw2: u16) -> Family
 fn is_fused(hw1: u16, hw2: u16) -> bool
     ensures { result ≡ is_fused hw1 hw2 }
 {
-    if hw1 / 128 % 512 != 0x1de {
-        return false;
-    }
-    if hw1 / 16 % 2 != 0 {
-        return false;
-    }
-    if hw2 / 256 % 16 != 12 {
-        return false;
-    }
-    hw2 / 16 % 2 == 1
+    hw1 / 128 % 512 == 0x1de && hw1 / 16 % 2 == 0 && hw2 / 256 % 16 == 12 && hw2 / 16 % 2 == 1
 }
 
 // Whether the edition withholds the name of the pair's cell.
@@ -76,18 +64,18 @@ fn is_withheld(edition: Edition, hw1: u16, hw2: u16) -> bool
 }
 
 // Reads a pair at an address, as the edition has it.
-pub fn read(edition: Edition, hw1: u16, hw2: u16, address: u32) -> Reading
-    ensures { reading_answer result ≡ reading_in edition hw1 hw2 address }
+#[tactic(auto, unfolding(crate::specs::Reading::reading, crate::specs::Reading::in_family))]
+pub fn read(edition: Edition, hw1: u16, hw2: u16, address: u32) -> Result<Insn, Refusal>
+    ensures { answer result ≡ reading_in edition hw1 hw2 address }
 {
     if is_withheld(edition, hw1, hw2) {
-        return Reading::Refused(Refusal::BlankCell);
+        return Err(Refusal::BlankCell);
     }
-    let f = family_of(hw1, hw2);
-    match f {
+    match family_of(hw1, hw2) {
         Family::ThreeSame => same3::decode_same3(hw1, hw2, address),
         Family::ThreeDifferent => diff::decode_diff(hw1, hw2, address),
         Family::Shift => shift::decode_shift(hw1, hw2, address),
         Family::ModifiedImmediate => modimm::decode_modimm(hw1, hw2, address),
-        Family::NoFamily => Reading::Refused(Refusal::NoFamily),
+        Family::NoFamily => Err(Refusal::NoFamily),
     }
 }

@@ -1,22 +1,21 @@
-// A record as text in a lent buffer: its name, and its operands joined by commas.
+// A record as text on a page: its name, and its operands joined by commas.
 #![tactic(auto)]
 
 ghost use Rattle.std.specs.Prelude.{◌<◌, ◌^◌};
-ghost use Rattle.names.specs.Own.{NameTable};
 ghost use Rattle.display.specs.Operands.{insn_text};
-ghost use Rattle.laws.specs.Placed.{Placed};
+ghost use Rattle.text.specs.Writes.{Writes};
 
 use insn::Insn;
-use name_text::put_name;
+use name_text::Names;
+use text::Page;
 
 mod operands;
 
-// A record, from place at on, as far as out reaches; the answer is the place after it.
-pub fn put_insn(out: &mut [u8], at: usize, i: Insn, names: &[u8; 4152]) -> usize
-    requires name_table { NameTable names.now }
-    requires at_bound { at < 2 ^ 55 }
-    ensures { Placed 78 out.old at (insn_text i) out.new result }
+// A record: its name and its operands.
+pub fn put_insn(page: &mut Page<u8>, i: Insn, names: &Names)
+    requires { page.old.at < 2 ^ 55 }
+    ensures { Writes 78 page.old (insn_text i) page.new }
 {
-    let p = put_name(out, at, i.mnemonic, names);
-    operands::put_operands(out, p, i)
+    names.put_name(page, i.mnemonic);
+    operands::put_operands(page, i);
 }

@@ -3,52 +3,41 @@ ghost use Rattle.std.specs.Prelude.{false, ◌≡◌, ◌∷◌, map, ◌<◌, �
 ghost use Rattle.floats.specs.Found.{find_float};
 ghost use Rattle.display.specs.Operands.{over_text, operand_text, with_commas, operands};
 ghost use Rattle.display.specs.Own.{is_register, register_letter, register_number};
-ghost use Rattle.laws.specs.Placed.{Placed};
 ghost use Rattle.text.specs.Text.{decimal};
+ghost use Rattle.text.specs.Writes.{Writes};
 
-use floats::FloatFound;
 use insn::{Insn, Operand};
+use text::Page;
 
 // A letter and a number.
-fn put_register(out: &mut [u8], at: usize, letter: u8, n: u8) -> usize
-    requires { at < 2 ^ 60 }
-    ensures { Placed 4 out.old at (letter ∷ decimal n) out.new result }
+fn put_register(page: &mut Page<u8>, letter: u8, n: u8)
+    requires { page.old.at < 2 ^ 60 }
+    ensures { Writes 4 page.old (letter ∷ decimal n) page.new }
 {
-    let p = text::put(out, at, letter);
+    page.put(letter);
     if n < 100 {
-        return text::put_small(out, p, n as u64);
+        page.put_small(n as u64);
+    } else {
+        page.put_five(n as u64);
     }
-    text::put_five(out, p, n as u64)
 }
 
 // A float as k over 128.
-fn put_over(out: &mut [u8], at: usize, x: f64) -> usize
-    requires { at < 2 ^ 60 }
-    ensures { Placed 9 out.old at (over_text (find_float x)) out.new result }
+fn put_over(page: &mut Page<u8>, x: f64)
+    requires { page.old.at < 2 ^ 60 }
+    ensures { Writes 9 page.old (over_text (find_float x)) page.new }
 {
-    let found = floats::float_imm8(x);
-    match found {
-        FloatFound::Imm8(b) => {
-            let p = text::put_minus(out, at, 128 <= b);
-            let q = text::put_five(out, p, floats::float_k(b) as u64);
-            text::put_word(out, q, b'/', b'1', b'2', b'8')
-        }
-        FloatFound::NoImm8 => at,
+    if let Some(b) = floats::float_imm8(x) {
+        page.put_minus(128 <= b);
+        page.put_five(floats::float_k(b) as u64);
+        page.put_word(b'/', b'1', b'2', b'8');
     }
 }
 
 fn is_register(o: Operand) -> bool
     ensures { result ≡ is_register o }
 {
-    match o {
-        Operand::D(_) => true,
-        Operand::Q(_) => true,
-        Operand::S(_) => true,
-        Operand::Imm(_) => false,
-        Operand::Float(_) => false,
-        Operand::Other => false,
-        Operand::Absent => false,
-    }
+    matches!(o, Operand::D(_) | Operand::Q(_) | Operand::S(_))
 }
 
 // The letter of a register; 0 for what is none.
@@ -59,10 +48,7 @@ fn register_letter(o: Operand) -> u8
         Operand::D(_) => b'd',
         Operand::Q(_) => b'q',
         Operand::S(_) => b's',
-        Operand::Imm(_) => 0,
-        Operand::Float(_) => 0,
-        Operand::Other => 0,
-        Operand::Absent => 0,
+        Operand::Imm(_) | Operand::Float(_) | Operand::Other | Operand::Absent => 0,
     }
 }
 
@@ -71,77 +57,66 @@ fn register_number(o: Operand) -> u8
     ensures { result ≡ register_number o }
 {
     match o {
-        Operand::D(n) => n,
-        Operand::Q(n) => n,
-        Operand::S(n) => n,
-        Operand::Imm(_) => 0,
-        Operand::Float(_) => 0,
-        Operand::Other => 0,
-        Operand::Absent => 0,
+        Operand::D(n) | Operand::Q(n) | Operand::S(n) => n,
+        Operand::Imm(_) | Operand::Float(_) | Operand::Other | Operand::Absent => 0,
     }
 }
 
 // An operand that is no register.
-fn put_value(out: &mut [u8], at: usize, o: Operand) -> usize
-    requires at_bound { at < 2 ^ 58 }
+fn put_value(page: &mut Page<u8>, o: Operand)
+    requires at_bound { page.old.at < 2 ^ 58 }
     requires o_value { is_register o ≡ false }
-    ensures { Placed 21 out.old at (operand_text o) out.new result }
+    ensures { Writes 21 page.old (operand_text o) page.new }
 {
     match o {
-        Operand::D(_) => at,
-        Operand::Q(_) => at,
-        Operand::S(_) => at,
         Operand::Imm(v) => {
-            let p = text::put(out, at, b'#');
-            text::put_signed(out, p, v)
+            page.put(b'#');
+            page.put_signed(v);
         }
         Operand::Float(x) => {
-            let p = text::put(out, at, b'#');
-            put_over(out, p, x)
+            page.put(b'#');
+            put_over(page, x);
         }
-        Operand::Other => at,
-        Operand::Absent => at,
+        Operand::D(_) | Operand::Q(_) | Operand::S(_) | Operand::Other | Operand::Absent => {}
     }
 }
 
 // An operand; D and Q go the same way, since nothing foretells which it is.
-fn put_operand(out: &mut [u8], at: usize, o: Operand) -> usize
-    requires { at < 2 ^ 58 }
-    ensures { Placed 21 out.old at (operand_text o) out.new result }
+fn put_operand(page: &mut Page<u8>, o: Operand)
+    requires { page.old.at < 2 ^ 58 }
+    ensures { Writes 21 page.old (operand_text o) page.new }
 {
     if is_register(o) {
-        return put_register(out, at, register_letter(o), register_number(o));
+        put_register(page, register_letter(o), register_number(o));
+    } else {
+        put_value(page, o);
     }
-    put_value(out, at, o)
 }
 
 // A comma and an operand.
-fn put_next(out: &mut [u8], at: usize, o: Operand) -> usize
-    requires { at < 2 ^ 57 }
-    ensures { Placed 22 out.old at (44 ∷ operand_text o) out.new result }
+fn put_next(page: &mut Page<u8>, o: Operand)
+    requires { page.old.at < 2 ^ 57 }
+    ensures { Writes 22 page.old (44 ∷ operand_text o) page.new }
 {
-    let p = text::put(out, at, b',');
-    put_operand(out, p, o)
+    page.put(b',');
+    put_operand(page, o);
 }
 
 // The operands within the count.
-pub fn put_operands(out: &mut [u8], at: usize, i: Insn) -> usize
-    requires { at < 2 ^ 56 }
-    ensures { Placed 65 out.old at (with_commas (map operand_text (operands i))) out.new result }
+pub fn put_operands(page: &mut Page<u8>, i: Insn)
+    requires { page.old.at < 2 ^ 56 }
+    ensures { Writes 65 page.old (with_commas (map operand_text (operands i))) page.new }
 {
-    let first = i.first;
-    let second = i.second;
-    let third = i.third;
     if i.count == 0 {
-        return at;
+        return;
     }
-    let p = put_operand(out, at, first);
+    put_operand(page, i.first);
     if i.count == 1 {
-        return p;
+        return;
     }
-    let q = put_next(out, p, second);
+    put_next(page, i.second);
     if i.count == 2 {
-        return q;
+        return;
     }
-    put_next(out, q, third)
+    put_next(page, i.third);
 }

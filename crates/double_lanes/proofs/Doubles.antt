@@ -2,8 +2,8 @@
 -- Assumes nothing.
 use mathlib.Core.Path.{◌≡◌, refl, sym, ◌∙◌, ap}
 use mathlib.Core.Bool.{Bool, true, false}
-use Prim.Native.Nat.{ℕ, suc, ◌+◌, ◌-◌, ◌*◌, ◌/◌, ◌%◌, ◌^◌, ◌<◌, ◌≤◌}
-use native.Mathlib.Nat.{mod-lt, add-mul, mul_assoc, mul-one, mul-suc, lt_of_lt_of_le}
+use Prim.Native.Nat.{ℕ, ◌+◌, ◌-◌, ◌*◌, ◌/◌, ◌%◌, ◌^◌, ◌<◌, ◌≤◌}
+use native.Mathlib.Nat.{mod-lt, add-mul, mul_assoc, mul-one, lt_of_lt_of_le}
 use native.Mathlib.Omega.{arith}
 use lib.IntN.{ℤ, pos, negsuc, ◌*ℤ◌}
 use lib.Signed.{shr_z}
@@ -17,15 +17,17 @@ use Rattle.insn.proofs.Sizes.{size-within, lanes}
 use Rattle.lanes.specs.Promises.{lane_at}
 use Rattle.lanes.proofs.Lanewise.{halves, lanes-lt, same}
 use Rattle.arithmetic.specs.Whole.{read_as}
-use Rattle.arithmetic.proofs.Modulo.{Congruent, plus, minus, times}
+use Rattle.arithmetic.proofs.Modulo.{Congruent, congruent, plus, minus, times}
+use Rattle.arithmetic.proofs.Signs.{again}
 use Rattle.double_lanes.specs.declared.LongOp.{LongOp}
 use Rattle.double_lanes.specs.declared.LongOp.TheVariants as long
 use Rattle.double_lanes.specs.declared.WideOp.{WideOp}
 use Rattle.double_lanes.specs.declared.WideOp.TheVariants as wide
 use Rattle.double_lanes.specs.declared.DoubleOp.{DoubleOp}
-use Rattle.double_lanes.specs.declared.DoubleOp.TheVariants.{Long}
-use Rattle.double_lanes.specs.Double.{lengths_of, lane_bits, exact_long, exact_wide, exact_double, double_lane, double_lanes, double_of}
-use Rattle.double_lanes.specs.Halves.{half_of}
+use Rattle.double_lanes.specs.declared.NarrowOp.{NarrowOp}
+use Rattle.double_lanes.specs.declared.DoubleOp.TheVariants.{Long, Wide, Narrow}
+use Rattle.double_lanes.specs.Double.{lengths_of, lane_bits, exact_long, exact_wide, exact_narrow, exact_double, double_lane, double_lanes, double_of}
+use Rattle.double_lanes.specs.Halves.{nth_lane, half_of}
 
 -- an operation on numbers that are congruent to the sources
 module _ (w x y : ℕ) (a b : ℤ) (p : Congruent w x a) (q : Congruent w y b) where
@@ -49,7 +51,7 @@ pub lane-lt : (op : DoubleOp) (w d n m : ℕ) → double_lane op w d n m < 2 ^ l
 unfolding double_lane
 lane-lt op w d n m = modulo-lt (lane_bits (lengths_of op).d w) (exact_double op w d n m)
 
--- a lane has w or 2w bits, so that twice the room is enough
+-- a lane has w or 2w bits, and k lanes as many times that
 pub bits-times : (q : Bool) (w c : ℕ) → lane_bits q w * c ≡ lane_bits q (w * c)
 bits-times true w c = mul_assoc 2 w c
 bits-times false w c = refl
@@ -58,21 +60,34 @@ bits_mono : (q : Bool) {a b : ℕ} → a ≤ b → lane_bits q a ≤ lane_bits q
 bits_mono true h = omega arith
 bits_mono false h = h
 
-pub twice : (q : Bool) {a : ℕ} → a ≤ 32 → lane_bits q a ≤ 64
-twice true h = omega arith
-twice false h = omega arith
+-- a lane of v bits, twice w, has its place where one of w has
+pub twice_room : (w v i : ℕ) → v ≡ 2 * w → w * i + w ≤ 32 → v * i + v ≤ 64
+twice_room w v i e l = rw (e, mul_assoc 2 w i) (omega arith)
 
-module _ (q : Bool) (w u : ℕ) (e : u ≡ lane_bits q w) where
-  some : (q : Bool) → 0 < w → 0 < lane_bits q w
-  some true z = omega arith
-  some false z = z
+-- what the code does at a lane, by the shape; v is twice w
+module _ (w v i d n m r : ℕ) (e : v ≡ 2 * w) where
+  pub long_is : (op : LongOp) (s : Sign) (t x y : ℕ) → t ≡ lane_at v i d → x ≡ modulo v (read_as s w (lane_at w i n))
+      → y ≡ modulo v (read_as s w (lane_at w i m)) → r ≡ modulo v (exact_long op (pos t) (pos x) (pos y)) → r ≡ nth_lane (Long op s) w i d n m
+  unfolding exact_double double_lane
+  long_is op s t x y f g h k =
+      rw (← e)
+      (k ∙ ap (λ (t : ℕ). modulo v (exact_long op (pos t) (pos x) (pos y))) f
+      ∙ long-like v x y (read_as s w (lane_at w i n)) (read_as s w (lane_at w i m)) (congruent v x _ g) (congruent v y _ h) op (lane_at v i d))
 
-  pub fits : (i : ℕ) → 0 < w → w * i + w ≤ 32 → (0 < u) × (u * i + u ≤ 64)
-  fits i z l = rw (e, ← mul-suc, bits-times q w (suc i)) (some q z, twice q (rw mul-suc l))
+  pub wide_is : (op : WideOp) (s : Sign) (x y : ℕ) → x ≡ lane_at v i n → y ≡ modulo v (read_as s w (lane_at w i m))
+      → r ≡ modulo v (exact_wide op (pos x) (pos y)) → r ≡ nth_lane (Wide op s) w i d n m
+  unfolding exact_double double_lane
+  wide_is op s x y f h k =
+      let z = lane_at v i n in
+      let g = again s v z (mod-lt _ (pow_pos v)) in
+      rw (← e)
+      (k ∙ ap (λ (x : ℕ). modulo v (exact_wide op (pos x) (pos y))) f
+      ∙ wide-like v z y (read_as s v z) (read_as s w (lane_at w i m)) (congruent v z _ (sym g)) (congruent v y _ h) op)
 
--- a lane has its bits
-pub part-lt : (u v i x r : ℕ) → u ≡ v → r ≡ lane_at u i x → r < 2 ^ v
-part-lt u v i x r e h = rw (h, ← e) (mod-lt _ (pow_pos u))
+  pub narrow_is : (op : NarrowOp) (x y : ℕ) → x ≡ lane_at v i n → y ≡ lane_at v i m
+      → r ≡ modulo w (exact_narrow op w (pos x) (pos y)) → r ≡ nth_lane (Narrow op) w i d n m
+  unfolding exact_double double_lane
+  narrow_is op x y f g k = rw (← e, ← f, ← g) k
 
 -- k lanes of w bits in s bits
 pub lanes-below : (op : DoubleOp) (w k s d n m : ℕ) → w * k ≤ s → double_lanes op w k d n m < 2 ^ lane_bits (lengths_of op).d s

@@ -1,17 +1,17 @@
 // Operations between lanes of w bits and lanes of 2w bits: a doubleword has lanes of w bits, and a quadword as many of 2w.
 #![tactic(auto)]
 
-ghost use Rattle.std.specs.Prelude.{◌≡◌, ◌+◌, ◌*◌, ◌^◌, ◌<◌, ◌≤◌, pos};
+ghost use Rattle.std.specs.Prelude.{◌≡◌, ◌+◌, ◌*◌, ◌^◌, ◌<◌, ◌≤◌, pos, None, IfSome};
 ghost use Rattle.std.specs.Int.Signed.{shr_z};
 ghost use Rattle.laws.specs.Signed.{modulo};
-ghost use Rattle.lanes.specs.Promises.{lane_at};
-ghost use Rattle.double_lanes.specs.Double.{shape_of, lengths_of, lane_bits, exact_long, exact_wide, exact_narrow, double_lane};
-ghost use Rattle.double_lanes.specs.Halves.{half_of};
+ghost use Rattle.insn.specs.Widths.{bits_of};
+ghost use Rattle.double_lanes.specs.Double.{shape_of, lengths_of, lane_bits, exact_long, exact_wide, exact_narrow};
+ghost use Rattle.double_lanes.specs.Halves.{nth_lane, half_of};
 
-use arithmetic::arith::{cut, difference, left, product, product_added, product_taken, sum};
-use arithmetic::whole::{extend, right};
-use insn::widths::bits;
+use arithmetic::arith::Bits;
+use arithmetic::whole::Place;
 use insn::{Sign, Width};
+use lanes::gather;
 use tables::DiffShape;
 use tables::lengths::{Lengths, of_shape};
 
@@ -68,115 +68,112 @@ pub fn lengths_of(op: DoubleOp) -> Lengths
     of_shape(shape_of(op))
 }
 
-// The bits of a lane, by the register that it is in.
-fn lane_bits(quad: bool, w: u32) -> u32
-    requires { w ≤ 64 }
-    ensures { result ≡ lane_bits quad w }
-{
-    if quad { 2 * w } else { w }
+// The bits of a lane, and twice as many.
+#[derive(Clone, Copy)]
+struct Widths {
+    single: Bits,
+    double: Bits,
+    ghost twice: { double.count ≡ 2 * single.count },
+}
+
+impl Widths {
+    // Those of a width, where twice as many bits are in a word.
+    fn new(w: Width) -> Option<Widths>
+        ensures some { IfSome result (λ b. b.single.count ≡ bits_of w) }
+        ensures none { result ≡ None → 32 < bits_of w }
+    {
+        let single = Bits::from(w);
+        if 32 < single.count {
+            return None;
+        }
+        let double = Bits {
+            count: 2 * single.count,
+        };
+        Some(Widths { single, double })
+    }
+
+    // The bits of a lane, by the register that it is in.
+    fn of(self, quad: bool) -> Bits
+        ensures { result.count ≡ lane_bits quad self.single.count }
+    {
+        if quad { self.double } else { self.single }
+    }
 }
 
 // A long lane, of v bits, from numbers that are the sources modulo 2^v.
-fn long_lane(op: LongOp, v: u32, d: u64, x: u64, y: u64) -> u64
-    requires { (0 < v) × (v ≤ 64) }
-    ensures { result ≡ modulo v (exact_long op (pos d) (pos x) (pos y)) }
+#[tactic(auto, unfolding(laws::specs::Signed::modulo))]
+fn long_lane(op: LongOp, v: Bits, d: u64, x: u64, y: u64) -> u64
+    ensures { result ≡ modulo v.count (exact_long op (pos d) (pos x) (pos y)) }
 {
     match op {
-        LongOp::Add => sum(v, x, y),
-        LongOp::Sub => difference(v, x, y),
-        LongOp::Mul => product(v, x, y),
-        LongOp::Mla => product_added(v, d, x, y),
-        LongOp::Mls => product_taken(v, d, x, y),
-        LongOp::Mov => cut(v, x),
-        LongOp::Shl(k) => left(v, x, k),
+        LongOp::Add => v.sum(x, y),
+        LongOp::Sub => v.difference(x, y),
+        LongOp::Mul => v.product(x, y),
+        LongOp::Mla => v.product_added(d, x, y),
+        LongOp::Mls => v.product_taken(d, x, y),
+        LongOp::Mov => v.cut(x),
+        LongOp::Shl(k) => v.left(x, k),
     }
 }
 
 // The same, where the first source has v bits itself.
-fn wide_lane(op: WideOp, v: u32, x: u64, y: u64) -> u64
-    requires { (0 < v) × (v ≤ 64) }
-    ensures { result ≡ modulo v (exact_wide op (pos x) (pos y)) }
+#[tactic(auto, unfolding(laws::specs::Signed::modulo))]
+fn wide_lane(op: WideOp, v: Bits, x: u64, y: u64) -> u64
+    ensures { result ≡ modulo v.count (exact_wide op (pos x) (pos y)) }
 {
     match op {
-        WideOp::Add => sum(v, x, y),
-        WideOp::Sub => difference(v, x, y),
+        WideOp::Add => v.sum(x, y),
+        WideOp::Sub => v.difference(x, y),
     }
 }
 
-// The low half of what a right shift by k leaves of x, a lane of 2w bits.
-fn kept(w: u32, x: u64, k: u32) -> u64
-    requires { ((0 < w) × (w ≤ 32)) × (x < 2 ^ (2 * w)) }
-    ensures { result ≡ modulo w (shr_z (pos x) (2 ^ k)) }
+// The low w bits of what a right shift by k leaves of x.
+fn kept(w: Bits, x: u64, k: u32) -> u64
+    ensures { result ≡ modulo w.count (shr_z (pos x) (2 ^ k)) }
 {
-    cut(w, right(Sign::Unsigned, 2 * w, x, k))
+    if k < 64 { w.cut(x >> k) } else { 0 }
 }
 
 // A lane of w bits, from lanes of 2w bits.
-fn narrow_lane(op: NarrowOp, w: u32, n: u64, m: u64) -> u64
-    requires { ((0 < w) × (w ≤ 32)) × (n < 2 ^ (2 * w)) }
-    ensures { result ≡ modulo w (exact_narrow op w (pos n) (pos m)) }
+fn narrow_lane(op: NarrowOp, w: Widths, n: u64, m: u64) -> u64
+    ensures { result ≡ modulo w.single.count (exact_narrow op w.single.count (pos n) (pos m)) }
 {
     match op {
-        NarrowOp::Shr(k) => kept(w, n, k),
-        NarrowOp::Add => kept(w, sum(2 * w, n, m), w),
-        NarrowOp::Sub => kept(w, difference(2 * w, n, m), w),
+        NarrowOp::Shr(k) => kept(w.single, n, k),
+        NarrowOp::Add => kept(w.single, w.double.sum(n, m), w.single.count),
+        NarrowOp::Sub => kept(w.single, w.double.difference(n, m), w.single.count),
     }
 }
 
-// One operation on one lane: d of the old target, n and m of the sources.
-fn lane(op: DoubleOp, w: u32, d: u64, n: u64, m: u64) -> u64
-    requires { ((0 < w) × (w ≤ 32)) × ((n < 2 ^ lane_bits (lengths_of op).n w) × (m < 2 ^ lane_bits (lengths_of op).m w)) }
-    ensures { result ≡ double_lane op w d n m }
+// The operation at lane i: d the old target, n and m the sources.
+fn nth(op: DoubleOp, w: Widths, i: u32, d: u64, n: u64, m: u64) -> u64
+    requires { w.single.count * i + w.single.count ≤ 32 }
+    ensures { result ≡ nth_lane op w.single.count i d n m }
 {
+    let p = Place { bits: w.single, i };
+    let q = Place { bits: w.double, i };
     match op {
-        DoubleOp::Long(o, s) => long_lane(o, 2 * w, d, extend(s, w, n), extend(s, w, m)),
-        DoubleOp::Wide(o, s) => wide_lane(o, 2 * w, n, extend(s, w, m)),
-        DoubleOp::Narrow(o) => narrow_lane(o, w, n, m),
+        DoubleOp::Long(o, s) => {
+            let x = p.lane(n).extend(s, w.double);
+            let y = p.lane(m).extend(s, w.double);
+            long_lane(o, w.double, q.number(d), x, y)
+        }
+        DoubleOp::Wide(o, s) => wide_lane(o, w.double, q.number(n), p.lane(m).extend(s, w.double)),
+        DoubleOp::Narrow(o) => narrow_lane(o, w, q.number(n), q.number(m)),
     }
 }
 
-// Lane i of x, where lanes have w bits.
-fn part(w: u32, i: u32, x: u64) -> u64
-    requires { (0 < w) × (w * i + w ≤ 64) }
-    ensures { result ≡ lane_at w i x }
-{
-    cut(w, x >> (w * i))
-}
-
-// `out` with lane i put at its place: wd, wn and wm are the bits of a lane of d, n and m.
-fn place(
-    op: DoubleOp,
-    w: u32,
-    wd: u32,
-    wn: u32,
-    wm: u32,
-    i: u32,
-    out: u64,
-    d: u64,
-    n: u64,
-    m: u64,
-) -> u64
-    requires { ((0 < w) × (w * i + w ≤ 32)) × ((wd ≡ lane_bits (lengths_of op).d w) × (wn ≡ lane_bits (lengths_of op).n w) × (wm ≡ lane_bits (lengths_of op).m w)) × (out + 2 ^ (wd * i + wd) ≤ 2 ^ 64) }
-    ensures { result ≡ out + 2 ^ (wd * i) * double_lane op w (lane_at wd i d) (lane_at wn i n) (lane_at wm i m) }
-{
-    out + (lane(op, w, part(wd, i, d), part(wn, i, n), part(wm, i, m)) << (wd * i))
-}
-
-// The operation at each lane of one half of the registers, from the highest down: d of the old target, n and m of the
-// sources. Of a doubleword's half the low 32 bits are read, and such a target's half has no more.
+// The operation at each lane of one half of the registers: d of the old target, n and m of the sources. Of a doubleword's
+// half the low 32 bits are read, and such a target's half has no more.
 pub fn half(op: DoubleOp, w: Width, d: u64, n: u64, m: u64) -> u64
     ensures { result ≡ half_of op w d n m }
 {
-    let q = lengths_of(op);
-    let b = bits(w);
-    let wd = lane_bits(q.d, b);
-    let wn = lane_bits(q.n, b);
-    let wm = lane_bits(q.m, b);
-    let mut i = 32 / b;
-    let mut out: u64 = 0;
-    while 0 < i {
-        i -= 1;
-        out = place(op, b, wd, wn, wm, i, out, d, n, m);
+    match Widths::new(w) {
+        Some(b) => gather(
+            b.of(lengths_of(op).d),
+            32 / b.single.count,
+            |i| nth(op, b, i, d, n, m),
+        ),
+        None => 0,
     }
-    out
 }

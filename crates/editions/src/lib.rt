@@ -13,16 +13,12 @@ const VFMA: u16 = 79;
 const VFMS: u16 = 80;
 
 // Whether the edition withholds mnemonic m.
+#[tactic(auto, using(crate::proofs::ByNumber::by_number))]
 pub fn withholds(edition: Edition, m: u16) -> bool
     ensures { result ≡ withholds edition (name_of m) }
 {
     match edition {
-        Edition::B => {
-            if m == VFMA {
-                return true;
-            }
-            m == VFMS
-        }
+        Edition::B => m == VFMA || m == VFMS,
         Edition::C => false,
     }
 }
@@ -31,8 +27,5 @@ pub fn withholds(edition: Edition, m: u16) -> bool
 pub fn edition_of(n: u32) -> Edition
     ensures { result ≡ edition_of n }
 {
-    if n == 1 {
-        return Edition::B;
-    }
-    Edition::C
+    if n == 1 { Edition::B } else { Edition::C }
 }

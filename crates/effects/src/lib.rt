@@ -17,38 +17,32 @@ use marks::mark_after;
 use meanings::{Numbers, Registers};
 use operations::Operation;
 
-// What an operation on registers of one length leaves: the file, and the mark.
-#[derive(Clone, Copy)]
-pub struct Performed {
+// The machine's state: a file of 32 doublewords, and the mark, which is the manual's cumulative saturation bit.
+#[derive(Clone, Copy, PartialEq, Eq)]
+pub struct State {
     pub file: [u64; 32],
     pub mark: bool,
 }
 
-// The file and the mark after an operation on registers of one length, by doublewords: a quadword is two. The sources are
-// read from the file before it.
-pub fn perform(file: [u64; 32], mark: bool, op: Operation, r: Registers) -> Performed
+// The state after an operation on registers of one length, by doublewords: a quadword is two. The sources are read from
+// the file before it.
+pub fn perform(before: State, op: Operation, r: Registers) -> State
     requires { Within (lengths r.quad r.quad r.quad) r.d r.n r.m }
-    ensures file { result.file ≡ effect (act op r) file }
-    ensures mark { result.mark ≡ either mark (moves (act op r) file) }
+    ensures file { result.file ≡ effect (act op r) before.file }
+    ensures mark { result.mark ≡ either before.mark (moves (act op r) before.file) }
 {
     let d = r.d as usize;
     let n = r.n as usize;
     let m = r.m as usize;
-    let low = mark_after(mark, op, file[n], file[m]);
-    let mut after = file;
-    after[d] = operations::value(op, file[d], file[n], file[m]);
+    let file = &before.file;
+    let mut after = before;
+    after.file[d] = operations::value(op, file[d], file[n], file[m]);
+    after.mark = mark_after(before.mark, op, file[n], file[m]);
     if r.quad {
-        let high = mark_after(low, op, file[n + 1], file[m + 1]);
-        after[d + 1] = operations::value(op, file[d + 1], file[n + 1], file[m + 1]);
-        return Performed {
-            file: after,
-            mark: high,
-        };
+        after.file[d + 1] = operations::value(op, file[d + 1], file[n + 1], file[m + 1]);
+        after.mark = mark_after(after.mark, op, file[n + 1], file[m + 1]);
     }
-    Performed {
-        file: after,
-        mark: low,
-    }
+    after
 }
 
 // The low half of a register for h = 0, the high one for 1: a doubleword of a quadword, 32 bits of a doubleword.
@@ -75,20 +69,22 @@ fn half_after(file: &[u64; 32], op: DoubleOp, w: Width, r: Numbers, h: usize) ->
     double_lanes::half(op, w, d, n, m)
 }
 
-// The file after an operation on registers of unlike length, by halves. The sources are read from the file before it.
-pub fn perform_unlike(file: [u64; 32], op: DoubleOp, w: Width, r: Numbers) -> [u64; 32]
+// The state after an operation on registers of unlike length, by halves. The sources are read from the file before it.
+pub fn perform_unlike(before: State, op: DoubleOp, w: Width, r: Numbers) -> State
     requires { Within (lengths_of op) r.d r.n r.m × (bits_of w ≤ 32) }
-    ensures { result ≡ effect (double op w r) file }
+    ensures file { result.file ≡ effect (double op w r) before.file }
+    ensures mark { result.mark ≡ before.mark }
 {
     let l = lengths_of(op);
     let d = r.d as usize;
-    let low = half_after(&file, op, w, r, 0);
-    let mut after = file;
+    let low = half_after(&before.file, op, w, r, 0);
+    let high = half_after(&before.file, op, w, r, 1);
+    let mut after = before;
     if l.d {
-        after[d] = low;
-        after[d + 1] = half_after(&file, op, w, r, 1);
+        after.file[d] = low;
+        after.file[d + 1] = high;
     } else {
-        after[d] = low + half_after(&file, op, w, r, 1) * 0x1_0000_0000;
+        after.file[d] = low + high * 0x1_0000_0000;
     }
     after
 }

@@ -30,7 +30,7 @@ use Rattle.fields.specs.Halfwords.{field}
 use Rattle.writings.specs.Forms.{Pair, Three, is_quad, all_three}
 use Rattle.writings.proofs.Only.{RefusedOnly, register-eight}
 use Rattle.amount_values.specs.Range.{is_outside}
-use Rattle.amount_values.proofs.Amounts.{outside-nine}
+use Rattle.amount_values.proofs.Amounts.{outside_nine}
 use Rattle.write_immediates.specs.Shift.{shift_form, shift_classed}
 use Rattle.encode.specs.Writing.{writing}
 use Rattle.encode.specs.Promises.{is_accepted, registers_fit, OutsideRefused}
@@ -45,7 +45,7 @@ all-refused (refused n) y f ex ey = ap refused ex
 classed-outside : (class : ShiftClass) (cell : ℕ) (a b : Operand) (v : ℤ) → is_outside v ≡ true → shift_classed class cell 3 a b (Imm v) ≡ refused (choose (registers_fit class a b) 9 8)
 unfolding shift_classed
 classed-outside class cell a b v out =
-    rw (outside-nine class (field 1 0 cell) v out)
+    rw (outside_nine class (field 1 0 cell) v out)
     (all-refused _ _ (shift_form class cell (is_quad a)) (register-eight (class_lengths class (is_quad a)).d a) (register-eight (class_lengths class (is_quad a)).m b))
 
 -- a name that is not blank is a mnemonic's

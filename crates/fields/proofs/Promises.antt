@@ -12,7 +12,7 @@ use Rattle.laws.proofs.Digits.{digit}
 use Rattle.laws.proofs.Never.{never}
 use Rattle.insn.specs.declared.Operand.TheVariants.{D, Q, S, Imm, Float, Other, Absent}
 use Rattle.insn.proofs.Promises.{numbered_apart}
-use Rattle.fields.specs.declared.VectorBits.TheVariants.{Are, Refused}
+use Rattle.std.specs.Prelude.{Ok, Err}
 use Rattle.fields.specs.Registers.{bits, vec_of, vec_bits}
 use Rattle.fields.specs.Halfwords.{first, second}
 use Rattle.fields.specs.Promises.{BitsOfVec, VecOfBits, FirstUnpacked, SecondUnpacked, FirstPacked, SecondPacked, BitsApart}
@@ -78,7 +78,7 @@ second_packed h l =
     rw top4 (second-sum h (h / 1 % 16) (h / 16) (h / 16 % 2) (h / 32) (h / 32 % 2) (h / 64) (h / 64 % 2) (h / 128) (h / 128 % 2) (h / 256) (h / 256 % 16) (h / 4096) low4 (digit h 16 2) (digit h 32 2) (digit h 64 2) (digit h 128 2) (digit h 256 16))
 
 pub bits_apart : BitsApart
-bits_apart (Are p a) (Are q b) e = let k : p ≡ q = cc in let m : a ≡ b = cc in λ i. Are (k i) (m i)
-bits_apart (Are p a) (Refused g) e = never (cc)
-bits_apart (Refused f) (Are q b) e = never (cc)
-bits_apart (Refused f) (Refused g) e = ap Refused (numbered_apart f g (cc))
+bits_apart (Ok (p, a)) (Ok (q, b)) e = let k : p ≡ q = cc in let m : a ≡ b = cc in λ i. Ok (k i, m i)
+bits_apart (Ok (p, a)) (Err g) e = never (cc)
+bits_apart (Err f) (Ok (q, b)) e = never (cc)
+bits_apart (Err f) (Err g) e = ap Err (numbered_apart f g (cc))

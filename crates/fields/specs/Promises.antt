@@ -1,9 +1,9 @@
 -- Promises beyond the contracts; proofs/Promises.antt proves each under its name.
 -- Assumes nothing.
-use Rattle.std.specs.Prelude.{Bool, ◌≡◌, ℕ, ◌<◌}
+use Rattle.std.specs.Prelude.{Bool, ◌≡◌, ℕ, ◌<◌, Result}
 use Rattle.laws.specs.Answer.{accepted}
 use Rattle.insn.specs.declared.Operand.{Operand}
-use Rattle.fields.specs.declared.VectorBits.{VectorBits}
+use Rattle.insn.specs.declared.Refusal.{Refusal}
 use Rattle.fields.specs.Answers.{bits_answer}
 use Rattle.fields.specs.Halfwords.{bit, field, first, second}
 use Rattle.fields.specs.Registers.{bits, vec_of, vec_bits}
@@ -54,4 +54,4 @@ SecondPacked =
 
 -- an answer says which case it is
 abbrev pub BitsApart : Type 0
-BitsApart = (v w : VectorBits) → bits_answer v ≡ bits_answer w → v ≡ w
+BitsApart = (v w : Result (Bool × ℕ) Refusal) → bits_answer v ≡ bits_answer w → v ≡ w

@@ -8,13 +8,6 @@ ghost use Rattle.fields.specs.Registers.{dnum_of, vec_bits};
 
 use insn::{Operand, Refusal};
 
-// What `vec_bits` answers: whether the register is a quadword, and the number of its (lower) doubleword; or the refusal.
-#[derive(Clone, Copy)]
-pub enum VectorBits {
-    Are(bool, u8),
-    Refused(Refusal),
-}
-
 // The doubleword register number hi:lo, from bit 0 of hi and bits 3..0 of lo.
 pub fn dnum(hi: u16, lo: u16) -> u8
     ensures { result ≡ dnum_of hi lo }
@@ -22,28 +15,15 @@ pub fn dnum(hi: u16, lo: u16) -> u8
     (hi % 2 * 16 + lo % 16) as u8
 }
 
-// Whether a register is a quadword, and its number, for D0 to D31 and Q0 to Q15.
-pub fn vec_bits(reg: Operand) -> VectorBits
+// Whether a register is a quadword, and the number of its (lower) doubleword, for D0 to D31 and Q0 to Q15.
+#[tactic(auto, unfolding(crate::specs::Registers::vec_bits))]
+pub fn vec_bits(reg: Operand) -> Result<(bool, u8), Refusal>
     ensures { bits_answer result ≡ vec_bits reg }
 {
     match reg {
-        Operand::D(n) => {
-            if n < 32 {
-                return VectorBits::Are(false, n);
-            }
-            VectorBits::Refused(Refusal::WrongForm)
-        }
-        Operand::Q(n) => {
-            if n < 16 {
-                return VectorBits::Are(true, 2 * n);
-            }
-            VectorBits::Refused(Refusal::WrongForm)
-        }
-        Operand::S(_) => VectorBits::Refused(Refusal::WrongForm),
-        Operand::Imm(_) => VectorBits::Refused(Refusal::WrongForm),
-        Operand::Float(_) => VectorBits::Refused(Refusal::WrongForm),
-        Operand::Other => VectorBits::Refused(Refusal::WrongForm),
-        Operand::Absent => VectorBits::Refused(Refusal::WrongForm),
+        Operand::D(n) if n < 32 => Ok((false, n)),
+        Operand::Q(n) if n < 16 => Ok((true, 2 * n)),
+        _ => Err(Refusal::WrongForm),
     }
 }
 

@@ -19,6 +19,6 @@ unfolding values float_of div of_int of_bits neg
 exact = agree computed float_of 256 refl
 
 -- k has at most 16 bits
-pub k-fits : (b : ℕ) → b < 256 → k_of b % 65536 ≡ k_of b
+pub k_fits : (b : ℕ) → b < 256 → k_of b % 65536 ≡ k_of b
 unfolding values
-k-fits = agree (λ (b : ℕ). k_of b % 65536) k_of 256 refl
+k_fits = agree (λ (b : ℕ). k_of b % 65536) k_of 256 refl

@@ -1,12 +1,12 @@
 -- The immediate of a float is the one that its bits name, if any is.
 -- Assumes nothing.
-use mathlib.Core.Path.{◌≡◌, refl, sym, ap, ◌∙◌, subst}
-use mathlib.Core.Bool.{Bool, true, false, not}
+use mathlib.Core.Path.{◌≡◌, refl, sym, ap, ◌∙◌}
+use mathlib.Core.Bool.{Bool, true, false}
 use Prim.Native.Nat.{ℕ, ◌+◌, ◌*◌, ◌/◌, ◌%◌, ◌<◌}
 use native.Mathlib.Omega.{arith}
-use lib.Dec.{T}
 use lib.Ieee.{Float, nan, inf, fin, binary64, eq, fits, is_nan, to_bits}
 use Rattle.laws.specs.Choice.{choose}
+use Rattle.laws.proofs.Never.{wrong}
 use Rattle.laws.proofs.Range.{values, agree}
 use Rattle.laws.specs.Search.{at, none}
 use Rattle.laws.proofs.Search.{nothing, candidate}
@@ -34,22 +34,18 @@ module _ (x : Float) (f : fits binary64 x ≡ true) where
   pub found-by : (b : Bool) {y : Float} → y ≡ float_of (named (to_bits binary64 x)) → eq y x ≡ b → choose b (at (named (to_bits binary64 x))) none ≡ find_float x
   found-by b is e = sym (found ∙ rw (← is, e))
 
-  -- a NaN is unequal to itself, and no immediate's float is
-  pub no_nan : not (eq x x) ≡ true → find_float x ≡ none
-  unfolding find_float
-  no_nan n = nothing (λ (b : ℕ). eq (float_of b) x) 256 (λ b h. go b h (eq (float_of b) x) refl)
-    where
-      go : (b : ℕ) → b < 256 → (c : Bool) → eq (float_of b) x ≡ c → c ≡ false
-      go b h true e =
-          let same : eq x x ≡ true = sym (ap (λ (y : Float). eq y x) (only b x h f e)) ∙ e in
-          absurd (subst T (sym n ∙ ap not same) tt)
-      go b h false e = refl
+-- a NaN is unequal to every float
+unequal : (y : Float) → eq y nan ≡ false
+unfolding eq
+unequal nan = refl
+unequal (inf s) = refl
+unequal (fin s m d) = refl
 
-pub is_number : (x : Float) → not (eq x x) ≡ false → T (not (is_nan x))
-unfolding eq is_nan
-is_number nan e = subst T e tt
-is_number (inf s) e = tt
-is_number (fin s m d) e = tt
+pub no_nan : (x : Float) → is_nan x ≡ true → find_float x ≡ none
+unfolding find_float is_nan
+no_nan nan e = nothing (λ (b : ℕ). eq (float_of b) nan) 256 (λ b h. unequal (float_of b))
+no_nan (inf s) e = wrong e
+no_nan (fin s m d) e = wrong e
 
 -- an immediate's float has that immediate
 pub fitting : (b : ℕ) → b < 256 → fits binary64 (float_of b) ≡ true

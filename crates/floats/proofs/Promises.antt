@@ -1,14 +1,13 @@
 -- The promises of specs/Promises.antt.
 -- Assumes nothing.
-use mathlib.Core.Path.{◌≡◌, refl, sym, ap, ◌∙◌}
+use mathlib.Core.Path.{refl, sym, ◌∙◌}
 use Prim.Native.Nat.{ℕ}
 use native.Mathlib.Nat.{mul-one}
 use lib.Dec.{leb}
 use lib.Ieee.{binary32, of_bits}
 use lib.Ieee.Exact.{odd_sign}
 use Rattle.laws.proofs.Range.{values, agree}
-use Rattle.laws.proofs.Never.{never}
-use Rattle.floats.specs.declared.FloatFound.TheVariants.{Imm8, NoImm8}
+use Rattle.laws.proofs.Found.{found_apart}
 use Rattle.floats.specs.Floats.{k_of, float_of, float_bits}
 use Rattle.floats.specs.Promises.{FloatValue, FloatPattern, FloatOnce, FloatBack, FloatsFoundApart}
 use Rattle.floats.proofs.Found.{its-bits, back_found}
@@ -28,7 +27,4 @@ pub float_back : FloatBack
 float_back = back_found
 
 pub floats_found_apart : FloatsFoundApart
-floats_found_apart (Imm8 a) (Imm8 b) e = ap Imm8 (let k : a ≡ b = cc in k)
-floats_found_apart (Imm8 a) NoImm8 e = never (cc)
-floats_found_apart NoImm8 (Imm8 b) e = never (cc)
-floats_found_apart NoImm8 NoImm8 e = refl
+floats_found_apart = found_apart

@@ -1,4 +1,3 @@
 pub mod Floats
 pub mod Found
-pub mod Answers
 pub mod Promises

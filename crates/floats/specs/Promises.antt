@@ -1,12 +1,10 @@
 -- Promises beyond the contracts; proofs/Promises.antt proves each under its name.
 -- Assumes nothing.
-use Rattle.std.specs.Prelude.{true, ◌≡◌, ℕ, ◌<◌, leb, Float}
+use Rattle.std.specs.Prelude.{true, ◌≡◌, ℕ, ◌<◌, leb, Float, Option}
 use Rattle.std.specs.Float.{binary32, binary64}
 use Rattle.std.specs.Float.Ieee.{of_bits, eq, fits}
 use Rattle.std.specs.Float.Ieee.Exact.{HasValue}
-use Rattle.laws.specs.Search.{at}
-use Rattle.floats.specs.declared.FloatFound.{FloatFound}
-use Rattle.floats.specs.Answers.{float_found_answer}
+use Rattle.laws.specs.Search.{at, found}
 use Rattle.floats.specs.Floats.{k_of, float_of, float_bits}
 use Rattle.floats.specs.Found.{find_float}
 
@@ -29,4 +27,4 @@ FloatBack = (b : ℕ) → b < 256 → find_float (float_of b) ≡ at b
 
 -- an answer says which case it is
 abbrev pub FloatsFoundApart : Type 0
-FloatsFoundApart = (x y : FloatFound) → float_found_answer x ≡ float_found_answer y → x ≡ y
+FloatsFoundApart = (x y : Option ℕ) → found x ≡ found y → x ≡ y

@@ -2,11 +2,12 @@
 #![tactic(auto)]
 
 ghost use Rattle.std.specs.Prelude.{◌≡◌};
-ghost use Rattle.floats.specs.Answers.{float_found_answer};
+ghost use Rattle.laws.specs.Search.{found};
 ghost use Rattle.floats.specs.Floats.{k_of, float_of, float_bits};
 ghost use Rattle.floats.specs.Found.{find_float};
 
 // k of the float k/128.
+#[tactic(auto, using(crate::proofs::Exact::k_fits))]
 pub fn float_k(imm8: u8) -> u16
     ensures { result ≡ k_of imm8 }
 {
@@ -32,24 +33,18 @@ pub fn float_bits(imm8: u8) -> u64
         + b % 64 * 0x8_0000
 }
 
-// What `float_imm8` answers: the immediate, or that there is none.
-#[derive(Clone, Copy)]
-pub enum FloatFound {
-    Imm8(u8),
-    NoImm8,
-}
-
 // The immediate whose float compares equal to x: the one that x's bits name, if it does.
-pub fn float_imm8(x: f64) -> FloatFound
-    ensures { float_found_answer result ≡ find_float x }
+pub fn float_imm8(x: f64) -> Option<u8>
+    ensures { found result ≡ find_float x }
 {
-    if x != x {
-        return FloatFound::NoImm8;
+    if x.is_nan() {
+        return None;
     }
-    let bits = f64::to_bits(x);
+    let bits = x.to_bits();
     let imm8 = (bits / 0x8000_0000_0000_0000 % 2 * 128 + bits / 0x1_0000_0000_0000 % 128) as u8;
     if imm_float(imm8) == x {
-        return FloatFound::Imm8(imm8);
+        Some(imm8)
+    } else {
+        None
     }
-    FloatFound::NoImm8
 }

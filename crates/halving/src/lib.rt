@@ -2,13 +2,12 @@
 // no number has more than 64 bits.
 #![tactic(auto)]
 
-ghost use Rattle.std.specs.Prelude.{◌≡◌, ◌^◌, ◌<◌, ◌≤◌, pos, ◌+ℤ◌, ◌-ℤ◌};
+ghost use Rattle.std.specs.Prelude.{◌≡◌, ◌<◌, pos, ◌+ℤ◌, ◌-ℤ◌};
 ghost use Rattle.laws.specs.Signed.{modulo};
 ghost use Rattle.arithmetic.specs.Whole.{read_as};
 ghost use Rattle.halving.specs.Half.{half, exact_halving};
 
-use arithmetic::arith::{difference, sum};
-use arithmetic::whole::right;
+use arithmetic::whole::Sources;
 use insn::Sign;
 
 // A halving operation, by its instruction's name.
@@ -20,37 +19,31 @@ pub enum HalvingOp {
 }
 
 // Half of x + y + c.
-fn half_sum(s: Sign, w: u32, x: u64, y: u64, c: u64) -> u64
-    requires { (((0 < w) × (w ≤ 64)) × ((x < 2 ^ w) × (y < 2 ^ w))) × (c < 2) }
-    ensures { result ≡ modulo w (half (read_as s w x +ℤ read_as s w y +ℤ pos c)) }
+fn half_sum(s: Sign, l: Sources, c: u64) -> u64
+    requires { c < 2 }
+    ensures { result ≡ modulo l.bits.count (half (read_as s l.bits.count l.x +ℤ read_as s l.bits.count l.y +ℤ pos c)) }
 {
-    sum(
-        w,
-        sum(w, right(s, w, x, 1), right(s, w, y, 1)),
-        (x % 2 + y % 2 + c) / 2,
-    )
+    let halves = l.bits.sum(l.first().right(s, 1), l.second().right(s, 1));
+    l.bits.sum(halves, (l.x % 2 + l.y % 2 + c) / 2)
 }
 
 // Half of x - y.
-fn half_difference(s: Sign, w: u32, x: u64, y: u64) -> u64
-    requires { ((0 < w) × (w ≤ 64)) × ((x < 2 ^ w) × (y < 2 ^ w)) }
-    ensures { result ≡ modulo w (half (read_as s w x -ℤ read_as s w y)) }
+fn half_difference(s: Sign, l: Sources) -> u64
+    ensures { result ≡ modulo l.bits.count (half (read_as s l.bits.count l.x -ℤ read_as s l.bits.count l.y)) }
 {
-    difference(
-        w,
-        difference(w, right(s, w, x, 1), right(s, w, y, 1)),
-        (1 + y % 2 - x % 2) / 2,
-    )
+    let halves = l
+        .bits
+        .difference(l.first().right(s, 1), l.second().right(s, 1));
+    l.bits.difference(halves, (1 + l.y % 2 - l.x % 2) / 2)
 }
 
 // The half that an operation leaves, as a lane.
-pub fn halved(op: HalvingOp, s: Sign, w: u32, x: u64, y: u64) -> u64
-    requires { ((0 < w) × (w ≤ 64)) × ((x < 2 ^ w) × (y < 2 ^ w)) }
-    ensures { result ≡ modulo w (exact_halving op (read_as s w x) (read_as s w y)) }
+pub fn halved(op: HalvingOp, s: Sign, l: Sources) -> u64
+    ensures { result ≡ modulo l.bits.count (exact_halving op (read_as s l.bits.count l.x) (read_as s l.bits.count l.y)) }
 {
     match op {
-        HalvingOp::Hadd => half_sum(s, w, x, y, 0),
-        HalvingOp::Rhadd => half_sum(s, w, x, y, 1),
-        HalvingOp::Hsub => half_difference(s, w, x, y),
+        HalvingOp::Hadd => half_sum(s, l, 0),
+        HalvingOp::Rhadd => half_sum(s, l, 1),
+        HalvingOp::Hsub => half_difference(s, l),
     }
 }

@@ -1,17 +1,17 @@
 -- The cells that the code's table lists, and the stretches of mnemonics that each table has.
 -- Assumes nothing.
 use mathlib.Core.Path.{◌≡◌, refl, sym, ap, ◌∙◌}
-use mathlib.Core.Bool.{true, false}
-use mathlib.Core.List.{[]}
-use Prim.Native.Nat.{ℕ, ◌+◌, ◌/◌, ◌%◌, ◌<◌, ◌≤◌}
+use mathlib.Core.Bool.{Bool, true, false}
+use Prim.Native.Nat.{ℕ, ◌+◌, ◌<◌, ◌≤◌}
 use lib.ListN.{get_or}
 use native.Mathlib.Omega.{arith}
 use borrow.Author.Tests.{lt-ltb, le-ltb}
+use Rattle.laws.specs.Search.{none}
 use Rattle.laws.proofs.Range.{values, agree-from}
-use Rattle.tables.proofs.Listed.{rows, listed}
+use Rattle.tables.proofs.Listed.{listed}
 use Rattle.homes.specs.declared.Home.{Home}
 use Rattle.homes.specs.declared.Home.TheVariants.{Same3, Shift, Vmovl, Modimm, Diff, Vmov, Nowhere}
-use Rattle.homes.proofs.Homes.{homes, listed_home, home_at, home-at, plain}
+use Rattle.homes.proofs.Homes.{homes, vqshl_at, listed_home, home_at, home-at, plain}
 
 abbrev cell : Home → ℕ
 cell (Same3 k) = k
@@ -27,13 +27,13 @@ cell_of m = cell (get_or homes m Nowhere)
 
 -- what stands at a mnemonic's place of the code's table
 abbrev pub tabled : ℕ → ℕ
-tabled m = get_or (get_or (rows cell_of 10 35) (m / 10) []) (m % 10) 0
+tabled m = get_or (values cell_of 0 346) m 0
 
 -- n mnemonics from lo on are at home in one table
 module _ (H : ℕ → Home) (lo n : ℕ) (below : lo + n ≤ 346) (same : values (λ (m : ℕ). H (cell_of m)) lo n ≡ values (listed_home false) lo n) where
   in_table : (m : ℕ) → lo ≤ m → m < lo + n → H (tabled m) ≡ home_at false m
   in_table m a b =
-      ap H (listed cell_of 10 35 m 0 (omega arith) (omega arith) (omega arith))
+      ap H (listed cell_of 346 m 0 (omega arith))
       ∙ agree-from (λ (m : ℕ). H (cell_of m)) (listed_home false) lo n same m a b
       ∙ sym (home-at false m)
 
@@ -62,15 +62,22 @@ unfolding values homes
 vmov-at m a b = agree-from (λ (m : ℕ). Vmov) (listed_home false) 345 1 refl m a b ∙ sym (home-at false m)
 
 -- a number as the third operand changes VQSHL's home alone
-module _ (m : ℕ) where
-  pub same-below : m < 31 → home_at false m ≡ home_at true m
-  same-below h = plain m (rw (lt-ltb m 31 h))
+module _ (number : Bool) (m : ℕ) where
+  kept : vqshl_at m ≡ none → home_at false m ≡ home_at number m
+  kept e = go number
+    where
+      go : (t : Bool) → home_at false m ≡ home_at t m
+      go true = plain m e
+      go false = refl
 
-  pub same-between : 35 ≤ m → m < 121 → home_at false m ≡ home_at true m
-  same-between a b = plain m (rw (le-ltb m 31 (omega arith), le-ltb m 35 a, lt-ltb m 121 b))
+  pub same-below : m < 31 → home_at false m ≡ home_at number m
+  same-below h = kept (rw (lt-ltb m 31 h))
 
-  pub same_above : 125 ≤ m → home_at false m ≡ home_at true m
-  same_above a = plain m (rw (le-ltb m 31 (omega arith), le-ltb m 35 (omega arith), le-ltb m 121 (omega arith), le-ltb m 125 a))
+  pub same-between : 35 ≤ m → m < 121 → home_at false m ≡ home_at number m
+  same-between a b = kept (rw (le-ltb m 31 (omega arith), le-ltb m 35 a, lt-ltb m 121 b))
+
+  pub same_above : 125 ≤ m → home_at false m ≡ home_at number m
+  same_above a = kept (rw (le-ltb m 31 (omega arith), le-ltb m 35 (omega arith), le-ltb m 121 (omega arith), le-ltb m 125 a))
 
 pub vqshl-signed : (m : ℕ) → 31 ≤ m → m < 35 → Shift (m + 25) ≡ home_at true m
 unfolding values homes

@@ -2,6 +2,7 @@
 -- Assumes nothing.
 use mathlib.Core.Path.{◌≡◌, refl, sym, ap, ◌∙◌}
 use mathlib.Core.Bool.{Bool, true, false, not}
+use mathlib.Core.Logic.{◌≢◌}
 use Prim.Native.Nat.{ℕ, ◌+◌, ◌*◌, ◌/◌, ◌%◌, ◌^◌, ◌<◌}
 use Prim.Native.String.{String}
 use native.Mathlib.Omega.{arith}
@@ -9,7 +10,9 @@ use lib.Dec.{T, eqb, ltb}
 use lib.IntN.{ℤ, pos}
 use lib.Ieee as Ieee
 use lib.Text.{eqt, eqt_refl}
-use borrow.Author.Tests.{eqb-true, ltb-true, eq-eqb}
+use borrow.Author.Tests.{eqb-true, eqb-false, ltb-true, eq-eqb, ne_eqb}
+use Rattle.std.specs.Option.{option_eq}
+use Rattle.std.specs.Prelude.{Option, Some, None}
 use Rattle.laws.specs.Answer.{accepted, refused}
 use Rattle.laws.specs.Choice.{choose, both}
 use Rattle.laws.specs.Search.{at, none}
@@ -19,7 +22,7 @@ use Rattle.laws.proofs.Search.{hit, only, nothing, all-fail, candidate}
 use Rattle.laws.proofs.Never.{wrong}
 use Rattle.insn.specs.declared.Operand.{Operand}
 use Rattle.insn.specs.declared.Operand.TheVariants.{Imm, Float}
-use Rattle.tables.specs.Cells.{cell_at}
+use Rattle.tables.specs.Cells.{cell_at, cell_number}
 use Rattle.homes.specs.Home.{home_of}
 use Rattle.immediate_tables.specs.Modimm.{modimm}
 use Rattle.names.specs.Names.{names, name_of, number_of}
@@ -249,6 +252,19 @@ holds_of false t = absurd t
 pub equal : (s : String) → eqt s s ≡ true
 equal s = holds_of (eqt s s) (eqt_refl s)
 
+not-fails : (a : Bool) → not a ≡ false → a ≡ true
+not-fails true e = refl
+not-fails false e = wrong (sym e)
+
+-- what a comparison of a table's cell with a mnemonic says
+pub same-cell : (x : Option ℕ) (m : ℕ) → not (option_eq eqb x (Some m)) ≡ false → cell_number x ≡ m
+same-cell (Some k) m e = eqb-true k m (not-fails _ e)
+same-cell None m e = wrong (sym e)
+
+pub other-cell : (x : Option ℕ) (m : ℕ) → m < 346 → not (option_eq eqb x (Some m)) ≡ true → cell_number x ≡ m → ⊥
+other-cell (Some k) m h e s = eqb-false k m (not-holds _ e) s
+other-cell None m h e s = omega arith
+
 module _ (m t : ℕ) (hm : m < 346) (ht : t < 8192) where
   pub its-name : number_of (cell16 modimm (t / 256)) ≡ m → eqt (cell_at modimm (op t) (cmode t)) (name_of m) ≡ true
   its-name e = rw (row_of t ht) (go (eqt (cell16 modimm (t / 256)) "") refl)
@@ -303,9 +319,9 @@ module _ (x : Ieee.Float) (f : Ieee.fits Ieee.binary64 x ≡ true) where
       let e3 : imm8 (0xf00 + b) ≡ b = omega arith in
       rw (e1, e2, e3) (float-here x b)
 
-  pub float-found : (b : ℕ) → find_float x ≡ at b → accepted (0xf00 + b) ≡ immediate_of "vmov.f32" (Float x)
+  pub float_found : (b : ℕ) → find_float x ≡ at b → accepted (0xf00 + b) ≡ immediate_of "vmov.f32" (Float x)
   unfolding find_float
-  float-found b e =
+  float_found b e =
       let k = hit (λ (c : ℕ). Ieee.eq (float_of c) x) 256 b e in
       ap or_nine
       (sym
@@ -317,9 +333,9 @@ module _ (x : Ieee.Float) (f : Ieee.fits Ieee.binary64 x ≡ true) where
       (omega arith)
       (at-float b k.1 ∙ k.0)))
 
-  pub float-none : find_float x ≡ none → refused 9 ≡ immediate_of "vmov.f32" (Float x)
+  pub float_none : find_float x ≡ none → refused 9 ≡ immediate_of "vmov.f32" (Float x)
   unfolding find_float
-  float-none e = ap or_nine (sym (nothing here 8192 (λ u l. go u l (here u) refl)))
+  float_none e = ap or_nine (sym (nothing here 8192 (λ u l. go u l (here u) refl)))
     where
       go : (u : ℕ) → u < 8192 → (b : Bool) → here u ≡ b → b ≡ false
       go u l true q =
@@ -328,6 +344,19 @@ module _ (x : Ieee.Float) (f : Ieee.fits Ieee.binary64 x ≡ true) where
       go u l false q = refl
 
 -- the one mnemonic that takes a float
-pub float-name : (m : ℕ) → m < 346 → eqt (name_of m) "vmov.f32" ≡ eqb m 266
+abbrev takes : ℕ → Bool
+takes m = eqt (name_of m) "vmov.f32"
+
+float-name : (m : ℕ) → m < 346 → takes m ≡ eqb m 266
 unfolding values names name_of
-float-name = agree (λ (m : ℕ). eqt (name_of m) "vmov.f32") (λ (m : ℕ). eqb m 266) 346 refl
+float-name = agree takes (λ (m : ℕ). eqb m 266) 346 refl
+
+module _ (m cell : ℕ) (home : home_of (name_of m) false ≡ Modimm cell) where
+  takes-test : takes m ≡ eqb m 266
+  takes-test = float-name m (stands m cell home).known
+
+  pub takes_float : m ≡ 266 → (takes m ≡ true) × (name_of m ≡ "vmov.f32")
+  takes_float e = let t = takes-test ∙ eq-eqb m 266 e in (t, same_text (name_of m) "vmov.f32" t)
+
+  pub takes_number : m ≢ 266 → takes m ≡ false
+  takes_number n = takes-test ∙ ne_eqb m 266 n

@@ -13,13 +13,7 @@ use Rattle.laws.specs.Answer.{accepted}
 use Rattle.laws.specs.Choice.{choose}
 use Rattle.laws.proofs.Range.{values, agree, agree2}
 use Rattle.insn.specs.declared.Operand.TheVariants.{Imm}
-use Rattle.floats.specs.Floats.{float_bits}
-use Rattle.immediates.specs.Modified.{undefined, a7-15, constant_at, element, bytes_of, pattern_in, operand_in, expand_imm, modimm_operand, needs_nonzero}
-
--- cmode >> 1 is 1, 2, 3, 5 or 6
-pub nonzero : (cmode : ℕ) (b : Bool) → cmode < 256 → b ≡ choose (eqb (cmode / 2) 0) false (choose (eqb (cmode / 2) 4) false (ltb (cmode / 2) 7)) → b ≡ needs_nonzero cmode
-unfolding values needs_nonzero
-nonzero cmode b h e = e ∙ agree (λ (c : ℕ). choose (eqb (c / 2) 0) false (choose (eqb (c / 2) 4) false (ltb (c / 2) 7))) needs_nonzero 256 refl cmode h
+use Rattle.immediates.specs.Modified.{undefined, a7-15, constant_at, element, bytes_of, pattern_in, operand_in, expand_imm, modimm_operand}
 
 -- the code's sum of bits
 pub bytes : (b : ℕ) → b < 256
@@ -54,31 +48,6 @@ no_last cmode h = go (eqb cmode 15) refl
 pub either : (cmode : ℕ) → cmode < 14 → constant_at 0 cmode ≡ constant_at 1 cmode
 unfolding values constant_at
 either = agree (constant_at 0) (constant_at 1) 14 refl
-
--- the element of a row with op 0, by the code's tests
-abbrev pub element_code : ℕ → ℕ → ℕ
-element_code cmode b =
-    choose (ltb cmode 2) b
-    (choose (ltb cmode 4) (b * 0x100)
-    (choose (ltb cmode 6) (b * 0x1_0000)
-    (choose (ltb cmode 8) (b * 0x100_0000)
-    (choose (ltb cmode 10) b
-    (choose (ltb cmode 12) (b * 0x100)
-    (choose (ltb cmode 13) (b * 0x100 + 0xff)
-    (choose (ltb cmode 14) (b * 0x1_0000 + 0xffff)
-    (choose (ltb cmode 15) b
-    (float_bits b)))))))))
-
-pub row-element : (cmode b r : ℕ) → cmode < 16 → b < 256 → r ≡ element_code cmode b → (r ≡ element (constant_at 0 cmode) b) × (r < 2 ^ 32)
-unfolding values constant_at element
-row-element cmode b r h l e = (
-  e ∙ agree2 element_code (λ (c b : ℕ). element (constant_at 0 c) b) 16 256 refl cmode b h l,
-  rw e (ltb-true (element_code cmode b) (2 ^ 32) (agree2 (λ (c b : ℕ). ltb (element_code c b) (2 ^ 32)) (λ (c b : ℕ). true) 16 256 refl cmode b h l)),
-)
-
-pub past-element : (cmode b : ℕ) → 16 ≤ cmode → (0 ≡ element (constant_at 0 cmode) b) × (0 < 2 ^ 32)
-unfolding element
-past-element cmode b h = (rw (no-cmode cmode h), omega arith)
 
 -- what fills 64 bits with it
 abbrev pub filled : ℕ → ℕ → ℕ

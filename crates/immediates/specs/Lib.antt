@@ -1,3 +1,2 @@
 pub mod Modified
-pub mod Answers
 pub mod Promises

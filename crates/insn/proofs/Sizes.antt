@@ -10,7 +10,7 @@ use lib.Pow.{pow_pos, pow_mono, pow-add}
 use borrow.Author.Tests.{ltb-true, ltb-false}
 use Rattle.insn.specs.declared.Width.{Width}
 use Rattle.insn.specs.declared.Width.TheVariants.{B8, B16, B32, B64}
-use Rattle.insn.specs.Widths.{bits_at, size_of, bits_of}
+use Rattle.insn.specs.Widths.{bits_at, size_of}
 
 -- there are four sizes
 pub size-le : (w : Width) → size_of w ≤ 3
@@ -24,9 +24,6 @@ bits_pos s = omega (arith, pow_pos s)
 
 pub at-most-64 : {s : ℕ} → s ≤ 3 → bits_at s ≤ 64
 at-most-64 h = mul-le-mul_left 8 (pow_mono h)
-
-pub bits-le : (w : Width) → bits_of w ≤ 64
-bits-le w = at-most-64 (size-le w)
 
 -- where the bits are at most those of a size, so is the size
 pub size-within : (s t : ℕ) → bits_at s ≤ bits_at t → s ≤ t

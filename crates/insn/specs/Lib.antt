@@ -1,4 +1,5 @@
 pub mod Record
 pub mod Widths
 pub mod Refusals
+pub mod Answers
 pub mod Promises

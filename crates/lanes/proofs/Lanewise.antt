@@ -1,14 +1,10 @@
 -- The laws of lane-wise operations, each over the widths of target and sources.
 -- Assumes nothing.
 use mathlib.Core.Path.{◌≡◌, refl, sym, ◌∙◌, ap}
-use Prim.Native.Nat.{ℕ, zero, suc, ◌+◌, ◌-◌, ◌*◌, ◌/◌, ◌%◌, ◌^◌, ◌≤◌, ◌<◌, zero-le, suc-le-suc}
-use native.Mathlib.Nat.{mul-suc, mul-zero, zero-add, suc-add, mul_assoc, mul_comm, mul-add, add_assoc, add_comm, add-mul-mod_self_left, add-mul-div_left, div-lt_iff_lt-mul, div-eq_of_lt, mod-eq_of_lt, mod-lt, mod-one, one-mul, not-suc-le-zero, le_of_suc-le-suc, mul-le-mul_left, sub-zero, sub_self, div-one}
-use native.Mathlib.Omega.{arith}
-use lib.Pow.{pow_pos, pow_mono, pow-add, shr-shr, mod-pow-add}
+use Prim.Native.Nat.{ℕ, zero, suc, ◌+◌, ◌*◌, ◌/◌, ◌%◌, ◌^◌, ◌<◌, zero-le, suc-le-suc}
+use native.Mathlib.Nat.{mul-suc, mul-zero, zero-add, suc-add, mul_assoc, mul_comm, mul-add, add_assoc, add_comm, add-mul-mod_self_left, add-mul-div_left, div-lt_iff_lt-mul, div-eq_of_lt, mod-eq_of_lt, mod-lt, mod-one, one-mul, not-suc-le-zero, le_of_suc-le-suc, div-one}
+use lib.Pow.{pow_pos, pow-add, shr-shr, mod-pow-add}
 use lib.Arith.{lt-one, digits_lt}
-use Rattle.insn.specs.declared.Width.{Width}
-use Rattle.insn.specs.Widths.{size_of, bits_of}
-use Rattle.insn.proofs.Sizes.{bits_pos, bits-le}
 use Rattle.lanes.specs.Lane.{lanewise}
 use Rattle.lanes.specs.Promises.{lane_at}
 
@@ -30,7 +26,7 @@ zero-sum : (w a b : ℕ) → a < 2 ^ (w * 0) → a + 2 ^ (w * 0) * b ≡ b
 zero-sum w a b h = rw (lt-one (rw mul-zero at h), mul-zero, one-mul, zero-add)
 
 -- lane 0, and the lanes above it
-at_zero : (w x : ℕ) → lane_at w 0 x ≡ x % 2 ^ w
+pub at_zero : (w x : ℕ) → lane_at w 0 x ≡ x % 2 ^ w
 at_zero w x = rw (mul-zero, div-one)
 
 at_suc : (w i x : ℕ) → lane_at w (suc i) x ≡ lane_at w i (x / 2 ^ w)
@@ -50,10 +46,6 @@ lane_above w zero i a b h =
 lane_above w (suc j) i a b h =
     ap (λ (k : ℕ). lane_at w k (a + 2 ^ (w * suc j) * b)) (suc-add j i) ∙ at_suc w (j + i) (a + 2 ^ (w * suc j) * b)
     ∙ ap (lane_at w (j + i)) (step-div w j a b) ∙ lane_above w j i (a / 2 ^ w) b (step-lt w j a h)
-
--- what is the same gives the same
-pub same-result : (f : ℕ → ℕ → ℕ → ℕ) {d e n o m p : ℕ} → d ≡ e → n ≡ o → m ≡ p → f d n m ≡ f e o p
-same-result f a b c = rw (a, b, c)
 
 module _ (f : ℕ → ℕ → ℕ → ℕ) (wd wn wm : ℕ) where
   -- lanes on both sides of a lane boundary are taken apart there
@@ -83,48 +75,6 @@ module _ (f : ℕ → ℕ → ℕ → ℕ) (wd wn wm : ℕ) where
   pub halves : (k z zn zm a b c d e g : ℕ) → wd * k ≡ z → wn * k ≡ zn → wm * k ≡ zm → a < 2 ^ z → c < 2 ^ zn → e < 2 ^ zm
       → lanewise f wd wn wm (k + k) (a + 2 ^ z * b) (c + 2 ^ zn * d) (e + 2 ^ zm * g) ≡ lanewise f wd wn wm k a c e + 2 ^ z * lanewise f wd wn wm k b d g
   halves k z zn zm a b c d e g p q r ha hc he = rw (← p, ← q, ← r) (split k k a b c d e g (rw (← p) at ha) (rw (← q) at hc) (rw (← r) at he))
-
-  -- one more lane, at the low end: what a turn of the loop does
-  pub next : (c i d n m : ℕ) → 0 < i → i ≤ c
-      → 2 ^ (wd * i) * lanewise f wd wn wm (c - i) (d / 2 ^ (wd * i)) (n / 2 ^ (wn * i)) (m / 2 ^ (wm * i))
-      + 2 ^ (wd * (i - 1)) * f (d / 2 ^ (wd * (i - 1)) % 2 ^ wd) (n / 2 ^ (wn * (i - 1)) % 2 ^ wn) (m / 2 ^ (wm * (i - 1)) % 2 ^ wm)
-      ≡ 2 ^ (wd * (i - 1)) * lanewise f wd wn wm (c - (i - 1)) (d / 2 ^ (wd * (i - 1))) (n / 2 ^ (wn * (i - 1))) (m / 2 ^ (wm * (i - 1)))
-  unfolding lanewise
-  next c zero d n m p q = absurd (not-suc-le-zero p)
-  next c (suc j) d n m p q =
-      let e : suc j - 1 ≡ j = omega arith in
-      let g : c - j ≡ suc (c - suc j) = omega arith in
-      rw (
-        e,
-        g,
-        shr-shr d (wd * j) wd,
-        shr-shr n (wn * j) wn,
-        shr-shr m (wm * j) wm,
-        ← mul-suc wd j,
-        ← mul-suc wn j,
-        ← mul-suc wm j,
-        pow-suc wd j,
-        mul_comm (2 ^ wd) (2 ^ (wd * j)),
-        mul_assoc,
-        ← mul-add,
-        add_comm,
-      )
-
-  pub turn : (c i d n m out r : ℕ) → 0 < i → i ≤ c
-      → out ≡ 2 ^ (wd * i) * lanewise f wd wn wm (c - i) (d / 2 ^ (wd * i)) (n / 2 ^ (wn * i)) (m / 2 ^ (wm * i))
-      → r ≡ out + 2 ^ (wd * (i - 1)) * f (lane_at wd (i - 1) d) (lane_at wn (i - 1) n) (lane_at wm (i - 1) m)
-      → r ≡ 2 ^ (wd * (i - 1)) * lanewise f wd wn wm (c - (i - 1)) (d / 2 ^ (wd * (i - 1))) (n / 2 ^ (wn * (i - 1))) (m / 2 ^ (wm * (i - 1)))
-  turn c i d n m out r p q e h =
-      h ∙ ap (λ (o : ℕ). o + 2 ^ (wd * (i - 1)) * f (lane_at wd (i - 1) d) (lane_at wn (i - 1) n) (lane_at wm (i - 1) m)) e ∙ next c i d n m p q
-
-  -- the loop's two ends
-  pub first : (c d n m : ℕ) → 0 ≡ 2 ^ (wd * c) * lanewise f wd wn wm (c - c) d n m
-  unfolding lanewise
-  first c d n m = rw (sub_self, mul-zero)
-
-  pub last : (c i d n m : ℕ) → i ≡ 0
-      → 2 ^ (wd * i) * lanewise f wd wn wm (c - i) (d / 2 ^ (wd * i)) (n / 2 ^ (wn * i)) (m / 2 ^ (wm * i)) ≡ lanewise f wd wn wm c d n m
-  last c i d n m e = rw (e, sub-zero, mul-zero, mul-zero, mul-zero, div-one, div-one, div-one, one-mul)
 
 -- where f gives a lane
 module _ (f : ℕ → ℕ → ℕ → ℕ) (wd wn wm : ℕ) (b : (d n m : ℕ) → f d n m < 2 ^ wd) where
@@ -170,22 +120,10 @@ kept f w h (suc k) d n m =
     rw (h (d % 2 ^ w) (n % 2 ^ w) (m % 2 ^ w) (mod-lt _ (pow_pos w)), kept f w h k (d / 2 ^ w) (n / 2 ^ w) (m / 2 ^ w), mul-suc, mod-pow-add n (w * k) w)
     (add_comm (n % 2 ^ w) _ ∙ ap (λ (x : ℕ). x + n % 2 ^ w) (mul_comm (2 ^ w) (n / 2 ^ w % 2 ^ (w * k))))
 
--- where c lanes have room in s bits: the next lane's place, and room for it below what is done
-module _ (w c i s : ℕ) (p : 0 < i) (q : i ≤ c) (e : w * c ≤ s) where
-  last_bit : w * (i - 1) + w ≡ w * i
-  last_bit = let g : i ≡ suc (i - 1) = omega arith in sym (mul-suc w (i - 1)) ∙ ap (λ (n : ℕ). w * n) (sym g)
-
-  pub at_most : w * (i - 1) + w ≤ s
-  at_most = let h : w * i ≤ w * c = mul-le-mul_left w q in omega (arith, last_bit)
-
-  pub room : (r : ℕ) → r < 2 ^ (w * (c - i)) → 2 ^ (w * i) * r + 2 ^ (w * (i - 1) + w) ≤ 2 ^ s
-  room r l =
-      let g : i + (c - i) ≡ c = omega arith in
-      let t : 2 ^ (w * i) * 2 ^ (w * (c - i)) ≡ 2 ^ (w * c) = sym (pow-add 2 (w * i) (w * (c - i))) ∙ ap (λ (n : ℕ). 2 ^ n) (sym (mul-add w i (c - i)) ∙ ap (λ (n : ℕ). w * n) g) in
-      let h : 2 ^ (w * i) * suc r ≤ 2 ^ (w * i) * 2 ^ (w * (c - i)) = mul-le-mul_left (2 ^ (w * i)) l in
-      let k : 2 ^ (w * c) ≤ 2 ^ s = pow_mono e in
-      rw last_bit (omega (arith, mul-suc (2 ^ (w * i)) r))
-
--- a width's bits are some, and at most 64
-pub bounds : (w : Width) (b : ℕ) → b ≡ bits_of w → (0 < b) × (b ≤ 64)
-bounds w b e = rw e (bits_pos (size_of w), bits-le w)
+-- lanes of the target that are left as they are
+pub own : (wd wn wm k d n m : ℕ) → lanewise (λ (d n m : ℕ). d) wd wn wm k d n m ≡ d % 2 ^ (wd * k)
+unfolding lanewise
+own wd wn wm zero d n m = rw mul-zero (sym (mod-one d))
+own wd wn wm (suc k) d n m =
+    rw (own wd wn wm k (d / 2 ^ wd) (n / 2 ^ wn) (m / 2 ^ wm), mul-suc, mod-pow-add d (wd * k) wd)
+    (add_comm (d % 2 ^ wd) _ ∙ ap (λ (x : ℕ). x + d % 2 ^ wd) (mul_comm (2 ^ wd) (d / 2 ^ wd % 2 ^ (wd * k))))

@@ -1,2 +1,3 @@
+pub mod Gathered
 pub mod Lanewise
 pub mod Promises

@@ -1,15 +1,13 @@
 // Lane arithmetic on 64-bit words: one operation at every lane of 8, 16, 32 or 64 bits.
 #![tactic(auto)]
 
-ghost use Rattle.std.specs.Prelude.{◌≡◌, ◌+◌, ◌-◌, ◌*◌, ◌/◌, ◌%◌, ◌^◌, ◌<◌, ◌≤◌};
+ghost use Rattle.std.specs.Prelude.{◌≡◌, ℕ, ◌+◌, ◌*◌, ◌^◌, ◌<◌, ◌≤◌};
 ghost use Rattle.lanes.specs.Lane.{lane_of, lanes_of};
+ghost use Rattle.lanes.specs.Promises.{lane_at};
 
-use arithmetic::arith::{
-    cut, difference, left, ones_if, product, product_added, product_taken, sum,
-};
-use arithmetic::whole::{greatest, least, less, right};
+use arithmetic::arith::Bits;
+use arithmetic::whole::{Place, Sources};
 use halving::{HalvingOp, halved};
-use insn::widths::bits;
 use insn::{Sign, Width};
 use saturating::{SaturatingOp, saturated};
 
@@ -34,48 +32,65 @@ pub enum LaneOp {
     Halving(HalvingOp, Sign),
 }
 
-// One operation on one lane of w bits: d of the old target, n and m of the sources.
-fn lane(op: LaneOp, w: u32, d: u64, n: u64, m: u64) -> u64
-    requires { ((0 < w) × (w ≤ 64)) × ((n < 2 ^ w) × (m < 2 ^ w)) }
-    ensures { result ≡ lane_of op w d n m }
+// One operation on one lane: d of the old target, and those of the sources.
+#[tactic(auto, using(arithmetic::proofs::Signs::le_not_lt), unfolding(crate::specs::Lane::lane_of, laws::specs::Signed::modulo))]
+fn lane(op: LaneOp, d: u64, l: Sources) -> u64
+    ensures { result ≡ lane_of op l.bits.count d l.x l.y }
 {
+    let w = l.bits;
     match op {
-        LaneOp::Add => sum(w, n, m),
-        LaneOp::Sub => difference(w, n, m),
-        LaneOp::Mul => product(w, n, m),
-        LaneOp::Mla => product_added(w, d, n, m),
-        LaneOp::Mls => product_taken(w, d, n, m),
-        LaneOp::Max(s) => greatest(s, w, n, m),
-        LaneOp::Min(s) => least(s, w, n, m),
-        LaneOp::Cgt(s) => ones_if(w, less(s, w, m, n)),
-        LaneOp::Cge(s) => ones_if(w, !less(s, w, n, m)),
-        LaneOp::Ceq => ones_if(w, n == m),
-        LaneOp::Tst => ones_if(w, n & m != 0),
-        LaneOp::Shl(k) => left(w, n, k),
-        LaneOp::Shr(s, k) => right(s, w, n, k),
-        LaneOp::Saturating(o, s) => saturated(o, s, w, n, m),
-        LaneOp::Halving(o, s) => halved(o, s, w, n, m),
+        LaneOp::Add => w.sum(l.x, l.y),
+        LaneOp::Sub => w.difference(l.x, l.y),
+        LaneOp::Mul => w.product(l.x, l.y),
+        LaneOp::Mla => w.product_added(d, l.x, l.y),
+        LaneOp::Mls => w.product_taken(d, l.x, l.y),
+        LaneOp::Max(s) => l.greatest(s),
+        LaneOp::Min(s) => l.least(s),
+        LaneOp::Cgt(s) => w.ones_if(l.swapped().less(s)),
+        LaneOp::Cge(s) => w.ones_if(!l.less(s)),
+        LaneOp::Ceq => w.ones_if(l.x == l.y),
+        LaneOp::Tst => w.ones_if(l.x & l.y != 0),
+        LaneOp::Shl(k) => w.left(l.x, k),
+        LaneOp::Shr(s, k) => l.first().right(s, k),
+        LaneOp::Saturating(o, s) => saturated(o, s, l),
+        LaneOp::Halving(o, s) => halved(o, s, l),
     }
 }
 
-// `out` with the lane that starts at bit `at` put there.
-fn place(op: LaneOp, w: u32, at: u32, out: u64, d: u64, n: u64, m: u64) -> u64
-    requires { ((0 < w) × (at + w ≤ 64)) × (out + 2 ^ (at + w) ≤ 2 ^ 64) }
-    ensures { result ≡ out + 2 ^ at * lane_of op w (d / 2 ^ at % 2 ^ w) (n / 2 ^ at % 2 ^ w) (m / 2 ^ at % 2 ^ w) }
+// The operation at one place: d the old target, n and m the sources.
+#[tactic(auto, using(crate::proofs::Promises::lane_below))]
+fn at(op: LaneOp, p: Place, d: u64, n: u64, m: u64) -> u64
+    ensures value { result ≡ lane_of op p.bits.count (lane_at p.bits.count p.i d) (lane_at p.bits.count p.i n) (lane_at p.bits.count p.i m) }
+    ensures fits { result < 2 ^ p.bits.count }
 {
-    out + (lane(op, w, cut(w, d >> at), cut(w, n >> at), cut(w, m >> at)) << at)
+    lane(op, p.number(d), p.sources(n, m))
 }
 
-// The operation at each lane of a word, from the highest down: d the old target, n and m the sources.
+// A word of so many lanes of w bits, lane i being what `of` gives of i.
+pub fn gather<F: Fn(u32) -> u64>(w: Bits, count: u32, of: F) -> u64
+    requires room { w.count * count ≤ 64 }
+    requires callable { (i : ℕ) → i < count → F.pre of i }
+    requires fits { (i r : ℕ) → i < count → F.post of i r → r < 2 ^ w.count }
+    ensures below { result < 2 ^ (w.count * count) }
+    ensures each { (i : ℕ) → i < count → F.post of i (lane_at w.count i result) }
+{
+    let mut out = 0;
+    for i in 0..count {
+        out += of(i) << (w.count * i);
+    }
+    out
+}
+
+// The operation at each lane of a word: d the old target, n and m the sources.
 pub fn lanes(op: LaneOp, w: Width, d: u64, n: u64, m: u64) -> u64
     ensures { result ≡ lanes_of 64 op w d n m }
 {
-    let b = bits(w);
-    let mut i = 64 / b;
-    let mut out: u64 = 0;
-    while 0 < i {
-        i -= 1;
-        out = place(op, b, b * i, out, d, n, m);
-    }
-    out
+    let b = Bits::from(w);
+    gather(
+        b,
+        64 / b.count,
+        |i|
+            requires { b.count * i + b.count ≤ 64 }
+        { at(op, Place { bits: b, i }, d, n, m) },
+    )
 }

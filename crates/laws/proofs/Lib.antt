@@ -1,5 +1,6 @@
 pub mod Digits
 pub mod Filled
+pub mod Found
 pub mod Never
 pub mod Padded
 pub mod Placed

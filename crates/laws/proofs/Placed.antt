@@ -7,15 +7,15 @@ use native.Mathlib.Nat.{zero-add, add-zero, add-suc, suc-add}
 use native.Mathlib.Numerals.{add-one}
 use native.Mathlib.Omega.{arith}
 use lib.ListN.{length, set, get_or, take, drop, length-append}
-use lib.Seq.{sets, sets-eq, set-set, set_out, take-suc, take_all}
+use lib.Seq.{sets, sets-eq, set-set, take-suc}
 use Rattle.laws.specs.Placed.{Placed}
 
-pub sets_then : (s l : List ℕ) (i : ℕ) (t : List ℕ) → sets (sets l i s) (i + length s) t ≡ sets l i (s ++ t)
+pub sets_then : {A : Type 0} (s l : List A) (i : ℕ) (t : List A) → sets (sets l i s) (i + length s) t ≡ sets l i (s ++ t)
 sets_then [] l i t = rw add-zero
 sets_then (a ∷ s) l i t = rw (add-suc, ← suc-add) (sets_then s (set l i a) (suc i) t)
 
 -- a list and then another
-pub then : {a b : ℕ} {l l' l'' : List ℕ} {i j k : ℕ} {s t : List ℕ} → Placed a l i s l' j → Placed b l' j t l'' k → Placed (a + b) l i (s ++ t) l'' k
+pub then : {A : Type 0} {a b : ℕ} {l l' l'' : List A} {i j k : ℕ} {s t : List A} → Placed a l i s l' j → Placed b l' j t l'' k → Placed (a + b) l i (s ++ t) l'' k
 then {l = l} {i = i} {s = s} {t = t} p q = record {
   stored = q.stored ∙ rw (p.stored, p.next) (sets_then s l i t);
   next = omega (arith, length-append s t);
@@ -23,22 +23,19 @@ then {l = l} {i = i} {s = s} {t = t} p q = record {
 }
 
 -- nothing
-pub nothing : {b : ℕ} (l : List ℕ) (i : ℕ) → Placed b l i [] l i
+pub nothing : {A : Type 0} {b : ℕ} (l : List A) (i : ℕ) → Placed b l i [] l i
 nothing l i = record { stored = refl; next = omega arith; short = omega arith }
 
--- one element, within the buffer or past its end
-pub one : (l : List ℕ) (i x : ℕ) → Placed 1 l i (x ∷ []) (set l i x) (i + 1)
+-- one element
+pub one : {A : Type 0} (l : List A) (i : ℕ) (x : A) → Placed 1 l i (x ∷ []) (set l i x) (i + 1)
 one l i x = record { stored = refl; next = refl; short = omega arith }
 
-pub one-past : (l : List ℕ) (i x : ℕ) → length l ≤ i → Placed 1 l i (x ∷ []) l (i + 1)
-one-past l i x h = record { stored = sym (set_out l i x h); next = refl; short = omega arith }
-
 -- two elements
-pub two : (l : List ℕ) (i x y : ℕ) → Placed 2 l i (x ∷ y ∷ []) (set (set l i x) (i + 1) y) (i + 2)
+pub two : {A : Type 0} (l : List A) (i : ℕ) (x y : A) → Placed 2 l i (x ∷ y ∷ []) (set (set l i x) (i + 1) y) (i + 2)
 two l i x y = record { stored = rw add-one; next = refl; short = omega arith }
 
 -- four elements
-pub four : (l : List ℕ) (i x y z w : ℕ) → Placed 4 l i (x ∷ y ∷ z ∷ w ∷ []) (set (set (set (set l i x) (i + 1) y) (i + 2) z) (i + 3) w) (i + 4)
+pub four : {A : Type 0} (l : List A) (i : ℕ) (x y z w : A) → Placed 4 l i (x ∷ y ∷ z ∷ w ∷ []) (set (set (set (set l i x) (i + 1) y) (i + 2) z) (i + 3) w) (i + 4)
 four l i x y z w =
     let e : i + 1 ≡ suc i = omega arith in
     let f : i + 2 ≡ suc (suc i) = omega arith in
@@ -46,32 +43,29 @@ four l i x y z w =
     record { stored = rw (e, f, g); next = refl; short = omega arith }
 
 -- an element placed over another
-pub over : {a b : ℕ} {l l' l'' : List ℕ} {i j k x y : ℕ} → Placed a l i (x ∷ []) l' j → Placed b l' i (y ∷ []) l'' k → Placed b l i (y ∷ []) l'' k
+pub over : {A : Type 0} {a b : ℕ} {l l' l'' : List A} {i j k : ℕ} {x y : A} → Placed a l i (x ∷ []) l' j → Placed b l' i (y ∷ []) l'' k → Placed b l i (y ∷ []) l'' k
 over {l = l} {i = i} {x = x} {y = y} p q = record { stored = q.stored ∙ rw p.stored (set-set l i x y); next = q.next; short = q.short }
 
 -- a greater bound
-pub widen : {a b : ℕ} {l l' : List ℕ} {i j : ℕ} {s : List ℕ} → a ≤ b → Placed a l i s l' j → Placed b l i s l' j
+pub widen : {A : Type 0} {a b : ℕ} {l l' : List A} {i j : ℕ} {s : List A} → a ≤ b → Placed a l i s l' j → Placed b l i s l' j
 widen h p = record { stored = p.stored; next = p.next; short = omega arith }
 
 -- the same list in other words
-pub reword : {b : ℕ} {l l' : List ℕ} {i j : ℕ} {s t : List ℕ} → s ≡ t → Placed b l i s l' j → Placed b l i t l' j
+pub reword : {A : Type 0} {b : ℕ} {l l' : List A} {i j : ℕ} {s t : List A} → s ≡ t → Placed b l i s l' j → Placed b l i t l' j
 reword e p = rw e at p
 
 -- and with a bound of its own
-pub respell : {a b : ℕ} {l l' : List ℕ} {i j : ℕ} {s t : List ℕ} → s ≡ t → length t ≤ b → Placed a l i s l' j → Placed b l i t l' j
+pub respell : {A : Type 0} {a b : ℕ} {l l' : List A} {i j : ℕ} {s t : List A} → s ≡ t → length t ≤ b → Placed a l i s l' j → Placed b l i t l' j
 respell {l = l} {i = i} e h p = record {
-  stored = p.stored ∙ ap (λ (x : List ℕ). sets l i x) e;
-  next = p.next ∙ ap (λ (x : List ℕ). i + length x) e;
+  stored = p.stored ∙ ap (λ (x : List _). sets l i x) e;
+  next = p.next ∙ ap (λ (x : List _). i + length x) e;
   short = h;
 }
 
--- a loop that places the elements of s one by one has placed its first j, and at last all
-pub copied : {l l' l'' : List ℕ} {i p r : ℕ} (s : List ℕ) (j d : ℕ) → j < length s → Placed j l i (take j s) l' p → Placed 1 l' p (get_or s j d ∷ []) l'' r → Placed (j + 1) l i (take (j + 1) s) l'' r
+-- a loop that places the elements of s one by one has placed its first j
+pub copied : {A : Type 0} {l l' l'' : List A} {i p r : ℕ} (s : List A) (j : ℕ) (d : A) → j < length s → Placed j l i (take j s) l' p → Placed 1 l' p (get_or s j d ∷ []) l'' r → Placed (j + 1) l i (take (j + 1) s) l'' r
 copied s j d h p q = rw (add-one, take-suc s j d h) (rw add-one at (then p q))
 
-pub all-copied : {l l' : List ℕ} {i p : ℕ} {b : ℕ} (s : List ℕ) (j : ℕ) → length s ≤ j → j ≤ b → Placed j l i (take j s) l' p → Placed b l i s l' p
-all-copied s j h k p = widen k (rw (take_all j s h) at p)
-
 -- from the start of a buffer that is long enough: the list, and then what was there
-pub whole : {b : ℕ} {l l' s : List ℕ} {r : ℕ} → length s ≤ length l → Placed b l 0 s l' r → l' ≡ s ++ drop (length s) l
+pub whole : {A : Type 0} {b : ℕ} {l l' s : List A} {r : ℕ} → length s ≤ length l → Placed b l 0 s l' r → l' ≡ s ++ drop (length s) l
 whole {l = l} {s = s} h p = p.stored ∙ sets-eq s l 0 (omega arith) ∙ rw zero-add

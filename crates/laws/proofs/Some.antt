@@ -1,8 +1,8 @@
--- Whether a number below a bound passes a test: turn by turn, in two parts, and by the number that does.
+-- Whether a number below a bound passes a test: in two parts, and by the number that does.
 -- Assumes nothing.
 use mathlib.Core.Path.{◌≡◌, refl, sym, ap, ◌∙◌}
 use mathlib.Core.Bool.{Bool, true, false}
-use Prim.Native.Nat.{ℕ, zero, suc, ◌+◌, ◌-◌, ◌<◌}
+use Prim.Native.Nat.{ℕ, zero, suc, ◌+◌, ◌<◌}
 use native.Mathlib.Nat.{add-zero, add-suc, not-suc-le-zero}
 use native.Mathlib.Omega.{arith}
 use lib.Dec.{eqb}
@@ -29,22 +29,6 @@ swapped true b c = sym (either-yes b)
 swapped false b c = refl
 
 module _ (p : ℕ → Bool) where
-  pub some-none : (n : ℕ) → n ≡ 0 → some_below n p ≡ false
-  unfolding some_below
-  some-none n e = ap (λ (i : ℕ). some_below i p) e
-
-  -- a turn of a loop that goes down from k: the number passes, or the rest decides
-  module _ (n k : ℕ) (some : 0 < n) (so : some_below n p ≡ some_below k p) where
-    last : some_below n p ≡ either (p (n - 1)) (some_below (n - 1) p)
-    unfolding some_below
-    last = let e : n ≡ suc (n - 1) = omega arith in ap (λ (i : ℕ). some_below i p) e
-
-    pub some-stops : p (n - 1) ≡ true → true ≡ some_below k p
-    some-stops e = sym (last ∙ rw e) ∙ so
-
-    pub some-goes-on : p (n - 1) ≡ false → some_below (n - 1) p ≡ some_below k p
-    some-goes-on e = sym (last ∙ rw e) ∙ so
-
   -- the first j numbers and the k after them
   pub some-apart : (j k : ℕ) → some_below (j + k) p ≡ either (some_below j p) (some_below k (λ i. p (j + i)))
   unfolding some_below

@@ -1,11 +1,16 @@
 -- The first number that passes a test, and whether one does.
 -- Assumes nothing.
-use Rattle.std.specs.Prelude.{Bool, false, ℕ, zero, suc}
+use Rattle.std.specs.Prelude.{Bool, false, ℕ, zero, suc, Option, Some, None}
 use Rattle.laws.specs.Choice.{choose, either}
 
 pub data Found : Type 0 where
   at : ℕ → Found
   none : Found
+
+-- what an Option of the code stands for
+abbrev pub found : Option ℕ → Found
+found (Some n) = at n
+found None = none
 
 -- of n numbers from i on
 unfoldable pub first_from : (ℕ → Bool) → ℕ → ℕ → Found

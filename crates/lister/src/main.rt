@@ -4,7 +4,7 @@
 ghost use Rattle.std.specs.Prelude.{◌≡◌, length};
 ghost use Rattle.listing.specs.Answers.{enough};
 
-use listing::{ENOUGH, Listed};
+use listing::ENOUGH;
 
 // Where the pairs come from, and where their listing goes.
 const STDIN: i32 = 0;
@@ -29,10 +29,7 @@ fn main() {
     let mut input = input_buffer();
     let n = io::read_full(STDIN, &mut input);
     let mut out = output_buffer();
-    match listing::list(&input[..n], &mut out) {
-        Listed::Length(k) => {
-            io::write_all(STDOUT, &out[..k]);
-        }
-        Listed::TooShort => {}
+    if let Ok(k) = listing::list(&input[..n], &mut out) {
+        io::write_all(STDOUT, &out[..k]);
     }
 }

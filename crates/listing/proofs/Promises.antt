@@ -1,6 +1,6 @@
 -- The promises of specs/Promises.antt.
 -- Assumes nothing.
-use mathlib.Core.Path.{◌≡◌, refl, sym, ap, ◌∙◌}
+use mathlib.Core.Path.{◌≡◌, refl, ap, ◌∙◌}
 use mathlib.Core.Bool.{Bool, true, false}
 use mathlib.Core.List.{List, [], ◌∷◌, ◌++◌, map}
 use Prim.Native.Nat.{ℕ, zero, suc, ◌+◌, ◌*◌, ◌/◌, ◌≤◌}
@@ -8,7 +8,7 @@ use native.Mathlib.Numerals.{add-one}
 use native.Mathlib.Omega.{arith}
 use lib.Ieee.{eq, odd}
 use lib.ListN.{length, length-append}
-use Rattle.laws.specs.Answer.{Answer, accepted, refused}
+use Rattle.insn.proofs.Promises.{answers_apart}
 use Rattle.laws.specs.Choice.{choose}
 use Rattle.laws.specs.Search.{first_from}
 use Rattle.laws.specs.Signed.{twos_complement}
@@ -26,9 +26,7 @@ use Rattle.read_registers.specs.Same3.{same3_of, same3_reading}
 use Rattle.read_immediates.specs.Shift.{forbidden, column_of, shift_of, shift_reading}
 use Rattle.read_immediates.specs.Modimm.{modimm_of, modimm_reading}
 use Rattle.decode.specs.Reading.{family_of, in_family, reading}
-use Rattle.listing.specs.declared.Listed.{Listed}
-use Rattle.listing.specs.declared.Listed.TheVariants.{Length, TooShort}
-use Rattle.listing.specs.Answers.{listed_answer, enough}
+use Rattle.listing.specs.Answers.{enough}
 use Rattle.totals.specs.Totals.{family_sort, reading_sort, sort_of, column, count, totals_text}
 use Rattle.lines.specs.Listing.{halfword_at, reading_text, line_text, pair_line, pair_sort, numbers_below, figure, is_listable, lines, ended_lines}
 use Rattle.listing.specs.Promises.{ListedApart, NeverLonger, TotalsAdd, Sample}
@@ -41,17 +39,8 @@ use Rattle.lines.proofs.PairLines.{as_many, ended-last, one_more}
 use Rattle.lines.proofs.Short.{line-short}
 use Rattle.lines.proofs.Listable.{listable}
 
--- the case of an answer, of which `listed_answer` is the inverse
-abbrev named : Answer ℕ → Listed
-named (accepted n) = Length n
-named (refused n) = TooShort
-
-back : (x : Listed) → named (listed_answer x) ≡ x
-back (Length n) = refl
-back TooShort = refl
-
 pub listed_apart : ListedApart
-listed_apart x y e = sym (back x) ∙ ap named e ∙ back y
+listed_apart = answers_apart
 
 pair-short : (bytes : List ℕ) (i : ℕ) → i ≤ 16384 → length (pair_line bytes i ++ 10 ∷ []) ≤ 55
 unfolding pair_line

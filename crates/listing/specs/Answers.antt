@@ -3,13 +3,6 @@
 use Rattle.std.specs.Prelude.{List, ◌++◌, ℕ, ◌+◌, ◌*◌, leb, length, drop}
 use Rattle.laws.specs.Answer.{Answer, accepted, refused}
 use Rattle.laws.specs.Choice.{choose}
-use Rattle.listing.specs.declared.Listed.{Listed}
-use Rattle.listing.specs.declared.Listed.TheVariants.{Length, TooShort}
-
--- what each case stands for, in the papers' numbers
-abbrev pub listed_answer : Listed → Answer ℕ
-listed_answer (Length n) = accepted n
-listed_answer TooShort = refused 14
 
 -- the text's length, or 14 where the buffer is shorter
 unfoldable pub length_for : List ℕ → List ℕ → Answer ℕ

@@ -2,14 +2,14 @@
 -- Assumes nothing.
 use Rattle.std.specs.Prelude.{List, [], ◌∷◌, ◌≡◌, ℕ, ◌+◌, ◌/◌, ◌≤◌, length}
 use Rattle.names.specs.Names.{codes}
-use Rattle.listing.specs.declared.Listed.{Listed}
-use Rattle.listing.specs.Answers.{listed_answer, enough}
+use Rattle.insn.specs.Promises.{AnswersApart}
+use Rattle.listing.specs.Answers.{enough}
 use Rattle.totals.specs.declared.Sort.TheVariants.{Same, Diff, Shifted, Imm, Refused}
 use Rattle.lines.specs.Listing.{figure, ended_lines, listing}
 
 -- an answer says which case it is
 abbrev pub ListedApart : Type 0
-ListedApart = (x y : Listed) → listed_answer x ≡ listed_answer y → x ≡ y
+ListedApart = AnswersApart ℕ
 
 -- no listing is longer than what is always enough
 abbrev pub NeverLonger : Type 0

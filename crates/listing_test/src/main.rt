@@ -6,7 +6,7 @@
 ghost use Rattle.std.specs.Prelude.{◌≡◌, ◌<◌, ◌≤◌, length};
 ghost use Rattle.listing.specs.Answers.{enough};
 
-use listing::{ENOUGH, Listed};
+use listing::ENOUGH;
 
 // Where the pairs come from, and where everything is written.
 const STDIN: i32 = 0;
@@ -40,10 +40,8 @@ fn repeated(pairs: &[u8]) -> [u8; 65540]
     ensures { 65540 ≡ length result }
 {
     let mut bytes = input_buffer();
-    let mut i: usize = 0;
-    while i < 65540 {
+    for i in 0..65540 {
         bytes[i] = pairs[i % pairs.len()];
-        i += 1;
     }
     bytes
 }
@@ -54,8 +52,8 @@ fn listed(bytes: &[u8], n: usize, out: &mut [u8]) -> usize
     ensures { result ≤ length out.new }
 {
     match listing::list(&bytes[..n], out) {
-        Listed::Length(k) => k,
-        Listed::TooShort => {
+        Ok(k) => k,
+        Err(_) => {
             put(b"too short\n");
             0
         }
@@ -78,31 +76,19 @@ fn mixed(sum: u64, b: u8) -> u64 {
 fn last_line(text: &[u8]) -> usize
     ensures { result ≤ length text.now }
 {
-    let mut i = text.len();
-    while 1 < i {
-        if text[i - 2] == 10 {
-            return i - 1;
-        }
-        i -= 1;
+    let end = text.len().saturating_sub(1);
+    match text[..end].iter().rposition(|b| *b == b'\n') {
+        Some(k) => k + 1,
+        None => 0,
     }
-    0
 }
 
 // Bytes, lines and a checksum of a text, and its last line.
 fn weigh(text: &[u8]) {
-    let mut lines: u64 = 0;
-    let mut sum: u64 = 0;
-    let mut i: usize = 0;
-    while i < text.len() {
-        let b = text[i];
-        if b == 10 {
-            lines = std::num::wrapping_add_u64(lines, 1);
-        }
-        sum = mixed(sum, b);
-        i += 1;
-    }
+    let lines = text.iter().filter(|b| **b == b'\n').count();
+    let sum = text.iter().fold(0, |sum, b| mixed(sum, *b));
     put_count(b"bytes ", text.len() as u64);
-    put_count(b", lines ", lines);
+    put_count(b", lines ", lines as u64);
     put_count(b", sum ", sum);
     put(b", last: ");
     let k = last_line(text);
@@ -120,8 +106,8 @@ fn show_weight(bytes: &[u8], n: usize, out: &mut [u8])
 // A listing in a buffer that may be too short for it, and what the buffer then holds.
 fn show_buffer(input: &[u8], out: &mut [u8]) {
     match listing::list(input, out) {
-        Listed::Length(k) => put_count(b"length ", k as u64),
-        Listed::TooShort => put(b"too short"),
+        Ok(k) => put_count(b"length ", k as u64),
+        Err(_) => put(b"too short"),
     }
     put(b": ");
     put(out);
@@ -160,11 +146,8 @@ fn show_bounds(bytes: &[u8], out: &mut [u8])
 fn show_sorts(groups: &[u8], out: &mut [u8])
     requires { 1280 ≤ length groups.now }
 {
-    let mut k: usize = 0;
-    while k < 5 {
-        let bytes = repeated(&groups[256 * k..256 * k + 256]);
-        show_weight(&bytes, 65536, out);
-        k += 1;
+    for group in groups.chunks_exact(256) {
+        show_weight(&repeated(group), 65536, out);
     }
 }
 

@@ -3,12 +3,13 @@
 // beforehand, as 0,1,2; all were where it is left out.
 #![tactic(auto)]
 
-ghost use Rattle.std.specs.Prelude.{◌+◌, ◌<◌, ◌≤◌, length};
+ghost use Rattle.std.specs.Prelude.{◌≤◌, length, IfSome};
 ghost use Rattle.loader.specs.Start.{StartFile};
 
+use effects::State;
 use little_endian::word_at;
 use report::{put, put_answer};
-use row_list::{RowList, row_list};
+use row_list::row_list;
 use std::env::FillError;
 use std::fs::File;
 use std::io::{Error, Read};
@@ -30,10 +31,9 @@ fn say_why(rt: &impl Alloc, path: &str, e: Error) {
     match e.to_string(rt.alloc()) {
         Ok(text) => {
             let all = text.as_str();
-            let why = match all.split_once(" (os error ") {
-                Some((before, _)) => before,
-                None => all,
-            };
+            let why = all
+                .split_once(" (os error ")
+                .map_or(all, |(before, _)| before);
             fail(path.as_bytes(), why.as_bytes());
         }
         Err(_) => fail(path.as_bytes(), b"no memory to say why"),
@@ -42,16 +42,14 @@ fn say_why(rt: &impl Alloc, path: &str, e: Error) {
 
 // Opens the file at a path; says why where it cannot.
 fn open_file<R: Files + Alloc>(rt: &R, path: &[u8]) -> Option<R::File> {
-    match std::str::from_utf8(path) {
-        Ok(text) => match File::open(rt, text) {
-            Ok(file) => Some(file),
-            Err(e) => {
-                say_why(rt, text, e);
-                None
-            }
-        },
-        Err(_) => {
-            fail(path, b"not UTF-8");
+    let Ok(text) = std::str::from_utf8(path) else {
+        fail(path, b"not UTF-8");
+        return None;
+    };
+    match File::open(rt, text) {
+        Ok(file) => Some(file),
+        Err(e) => {
+            say_why(rt, text, e);
             None
         }
     }
@@ -72,62 +70,56 @@ fn read_from(file: &mut impl Read, buf: &mut [u8]) -> usize
     done
 }
 
-// Reads the file that argument k names, as far as the buffer reaches: how many bytes, or one more than it holds
-// where there is no such file.
-fn read_file(rt: &(impl Env + Files + Alloc), k: usize, buf: &mut [u8]) -> usize
-    requires { length buf.old < 65536 }
-    ensures { result ≤ length buf.new + 1 }
+// Reads the file that argument k names, as far as the buffer reaches: how many bytes, where there is such a file.
+fn read_file(rt: &(impl Env + Files + Alloc), k: usize, buf: &mut [u8]) -> Option<usize>
+    ensures { IfSome result (λ n. n ≤ length buf.new) }
 {
     let mut path = io::buffer();
-    let none = buf.len() + 1;
-    match rt.arg(k, &mut path) {
-        Ok(n) => match open_file(rt, &path[..n]) {
-            Some(mut file) => read_from(&mut file, buf),
-            None => none,
-        },
-        Err(_) => none,
-    }
+    let n = rt.arg(k, &mut path).ok()?;
+    let mut file = open_file(rt, &path[..n])?;
+    Some(read_from(&mut file, buf))
 }
 
 // The doublewords of a start file.
 fn file_of(start: &[u8; 257]) -> [u64; 32]
     ensures { StartFile start.now result }
 {
-    let mut file = [0u64; 32];
-    for k in 0..32usize {
-        file[k] = word_at(start, 8 * k);
-    }
-    file
+    std::array::from_fn(|k| word_at(start, 8 * k))
 }
 
 // Evaluates a sheet on a start file, with a list of filled rows, and writes what comes of it.
 fn evaluate(sheet: &[u8], start: &[u8; 257], filled: u16) {
-    let mut file = file_of(start);
+    let mut state = State {
+        file: file_of(start),
+        mark: false,
+    };
     let mut out = [0u16; 10240];
-    let mut mark = false;
-    let answer = sheet::evaluate(sheet, filled, &mut out, &mut file, u64::MAX, &mut mark);
-    put_answer(answer, sheet, filled, file, mark);
+    let answer = sheet::evaluate(
+        sheet,
+        filled,
+        &mut out,
+        &mut state.file,
+        u64::MAX,
+        &mut state.mark,
+    );
+    put_answer(answer, sheet, filled, &state);
 }
 
 // Runs the sheet of the first argument on the start file of the second, with a list of filled rows as text.
 pub fn load_listed(rt: &(impl Env + Files + Alloc), list: &[u8]) {
     let mut sheet = [0u8; 6145];
-    let n = read_file(rt, 1, &mut sheet);
-    if 6145 < n {
+    let Some(n) = read_file(rt, 1, &mut sheet) else {
         put(b"no sheet: loading SHEET START [FILLED]\n");
         return;
-    }
+    };
     let mut start = [0u8; 257];
-    if read_file(rt, 2, &mut start) != 256 {
+    if read_file(rt, 2, &mut start) != Some(256) {
         put(b"no start file of 256 bytes: loading SHEET START [FILLED]\n");
         return;
     }
-    let filled = row_list(list);
-    match filled {
-        RowList::Rows(rows) => evaluate(&sheet[..n], &start, rows),
-        RowList::NoList => put(
-            b"no list of rows, as 0,1,2 or none or all: loading SHEET START [FILLED]\n",
-        ),
+    match row_list(list) {
+        Some(rows) => evaluate(&sheet[..n], &start, rows),
+        None => put(b"no list of rows, as 0,1,2 or none or all: loading SHEET START [FILLED]\n"),
     }
 }
 

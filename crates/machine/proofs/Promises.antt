@@ -23,14 +23,15 @@ use Rattle.forms.specs.declared.Form.TheVariants.{Bits as Orred, Copy}
 use Rattle.tables.specs.declared.lengths.Lengths.{Lengths}
 use Rattle.tables.specs.Lengths.{lengths}
 use Rattle.meanings.specs.declared.Numbers.{Numbers}
-use Rattle.machine.specs.declared.Outcome.TheVariants.{Done, Refused as Stopped}
+use Rattle.std.specs.Prelude.{Ok, Err}
+use Rattle.effects.specs.declared.State.{State as Left}
 use Rattle.effects.specs.File.{File, Good, read_d}
 use Rattle.forms.specs.Forms.{groups, named_forms, form_of}
 use Rattle.meanings.specs.Meaning.{Act, act, double, registers, numbers, lengths_in, numbers_in, Trio, trio, gathered, same_lengths, acting, doubling, whole_pattern, meaning_in, meaning_of}
 use Rattle.operations.specs.Operations.{result_of}
 use Rattle.effects.specs.Effect.{effect, moves}
 use Rattle.marks.proofs.Promises.{moved_exactly}
-use Rattle.machine.specs.State.{State, acted}
+use Rattle.machine.specs.State.{State, state, acted}
 use Rattle.machine.specs.Step.{step_by, step_insn, step_read, step_pair}
 use Rattle.machine.specs.Promises.{FileKept, OnlyTarget, PairMoves, MarkTurns, MarkStays, CopyAlias, LongMoveAlias, OutcomesApart}
 use Rattle.meanings.proofs.Actions.{meant}
@@ -144,8 +145,12 @@ unfolding modulo whole_pattern meaning_of meaning_in
 long_move_alias i j s sign w a b c d e f g =
     rw (a, b, c, d, e, f, g) (long-moved s sign w (gathered (vec_bits i.first) (vec_bits i.second) (vec_bits i.second)))
 
+-- a declared state is what its file and mark are
+same_state : (x y : Left) → state x.file x.mark ≡ state y.file y.mark → x ≡ y
+same_state x y e = λ i. record { file = (e i).file; mark = (e i).mark }
+
 pub outcomes_apart : OutcomesApart
-outcomes_apart Done Done s t e = refl
-outcomes_apart Done (Stopped y) s t e = never (cc)
-outcomes_apart (Stopped x) Done s t e = never (cc)
-outcomes_apart (Stopped x) (Stopped y) s t e = ap Stopped (numbered_apart x y (cc))
+outcomes_apart (Ok a) (Ok b) e = ap Ok (same_state a b (cc))
+outcomes_apart (Ok a) (Err y) e = never (cc)
+outcomes_apart (Err x) (Ok a) e = never (cc)
+outcomes_apart (Err x) (Err y) e = ap Err (numbered_apart x y (cc))

@@ -1,15 +1,13 @@
--- What each case of the answers stands for, in the papers' numbers.
+-- What each case of the answer stands for, in the papers' numbers.
 -- Assumes nothing.
+use Rattle.std.specs.Prelude.{Result, Ok, Err}
 use Rattle.laws.specs.Answer.{Answer, accepted, refused}
+use Rattle.insn.specs.declared.Refusal.{Refusal}
 use Rattle.insn.specs.Refusals.{number}
-use Rattle.machine.specs.declared.Outcome.{Outcome}
-use Rattle.machine.specs.declared.Outcome.TheVariants.{Done, Refused as Stopped}
+use Rattle.effects.specs.declared.State.{State as Left}
 use Rattle.machine.specs.State.{State, state}
-use Rattle.machine.specs.declared.Stepped.{Stepped}
 
-abbrev pub outcome_answer : Outcome → State → Answer State
-outcome_answer Done s = accepted s
-outcome_answer (Stopped f) s = refused (number f)
-
-abbrev pub stepped_answer : Stepped → Answer State
-stepped_answer r = outcome_answer r.outcome (state r.file r.mark)
+-- the state that it leaves, or the refusal
+abbrev pub outcome_answer : Result Left Refusal → Answer State
+outcome_answer (Ok s) = accepted (state s.file s.mark)
+outcome_answer (Err f) = refused (number f)

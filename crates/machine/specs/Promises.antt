@@ -1,8 +1,9 @@
 -- Promises beyond the contracts; proofs/Promises.antt proves each under its name.
 -- Assumes nothing.
-use Rattle.std.specs.Prelude.{Bool, true, false, ◌≢◌, ◌≡◌, ℕ, ◌+◌, pos}
+use Rattle.std.specs.Prelude.{Bool, true, false, ◌≢◌, ◌≡◌, ℕ, ◌+◌, pos, Result}
 use Rattle.laws.specs.Answer.{accepted}
 use Rattle.insn.specs.declared.Insn.{Insn}
+use Rattle.insn.specs.declared.Refusal.{Refusal}
 use Rattle.insn.specs.declared.Operand.TheVariants.{Imm}
 use Rattle.insn.specs.declared.Sign.{Sign}
 use Rattle.insn.specs.declared.Width.{Width}
@@ -16,9 +17,9 @@ use Rattle.forms.specs.declared.Form.TheVariants.{Shift, Extend}
 use Rattle.forms.specs.Forms.{form_of}
 use Rattle.meanings.specs.declared.Registers.{Registers}
 use Rattle.meanings.specs.Meaning.{act, meaning_of}
-use Rattle.machine.specs.declared.Outcome.{Outcome}
 use Rattle.machine.specs.State.{State}
 use Rattle.machine.specs.Answers.{outcome_answer}
+use Rattle.effects.specs.declared.State.{State as Left}
 use Rattle.effects.specs.File.{File, Good, read_d, register_bits, read_r}
 use Rattle.machine.specs.Step.{step_insn, step_pair}
 
@@ -66,4 +67,4 @@ LongMoveAlias =
 
 -- an answer says which case it is
 abbrev pub OutcomesApart : Type 0
-OutcomesApart = (x y : Outcome) (s t : State) → outcome_answer x s ≡ outcome_answer y t → x ≡ y
+OutcomesApart = (x y : Result Left Refusal) → outcome_answer x ≡ outcome_answer y → x ≡ y

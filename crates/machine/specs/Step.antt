@@ -22,8 +22,3 @@ step_read (refused n) s = refused n
 -- the step that a pair is: edition C's refusal in reading, else the record's step; the address does not matter
 abbrev pub step_pair : ℕ → ℕ → State → Answer State
 step_pair hw1 hw2 s = step_read (reading hw1 hw2 0) s
-
--- a refusal leaves the state as it was
-abbrev pub state_after : Answer State → State → State
-state_after (accepted next) s = next
-state_after (refused n) s = s

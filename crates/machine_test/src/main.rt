@@ -5,70 +5,44 @@
 // afterwards; after + the mark turns, and those after ! are refused.
 #![tactic(auto)]
 
-use replay::{STDIN, put, put_count};
+use replay::{Blocks, block, put, put_count};
 use vectors::{count_meanings, passes, passes_unlike};
-
-// 1 for a line whose vector passes; else 0, and the line is printed.
-fn tell(line: &[u8], passed: bool) -> u64 {
-    if passed {
-        return 1;
-    }
-    put(b"failed ");
-    put(line);
-    put(b"\n");
-    0
-}
 
 // Reads past the end of a line.
 fn skip() {
-    let mut byte = [0u8; 1];
-    for _ in 0..1000u16 {
-        if io::read_full(STDIN, &mut byte) < 1 {
-            return;
-        }
-        if byte[0] == b'\n' {
+    for [byte] in Blocks::<1>::new(1000) {
+        if byte == b'\n' {
             return;
         }
     }
 }
 
-// Reads a vector with registers of one length and runs it both ways: 1 where it passes, else 0.
-fn alike() -> u64 {
-    let mut line = [0u8; 100];
-    if io::read_full(STDIN, &mut line) < 100 {
-        return 0;
+// Whether a vector passed; the line of one that did not is printed.
+fn told(line: &[u8], passed: bool) -> bool {
+    if !passed {
+        put(b"failed ");
+        put(line);
+        put(b"\n");
     }
-    let once = passes(&line, false);
-    let twice = passes(&line, true);
-    tell(&line, once && twice)
+    passed
 }
 
-// Reads a vector with registers of different lengths and runs it.
-fn unlike(sign: u8) -> u64 {
-    let mut line = [0u8; 153];
-    if io::read_full(STDIN, &mut line) < 153 {
-        return 0;
+// Reads the vector after a sign and runs it, one with registers of one length both ways: whether it passes.
+fn vector(sign: u8) -> bool {
+    if sign == b' ' {
+        block::<100>().is_some_and(|line| told(&line, passes(&line, false) && passes(&line, true)))
+    } else {
+        block::<153>().is_some_and(|line| told(&line, passes_unlike(&line, sign)))
     }
-    let passed = passes_unlike(&line, sign);
-    tell(&line, passed)
-}
-
-// Runs the vector after a sign.
-fn vector(sign: u8) -> u64 {
-    if sign == b' ' { alike() } else { unlike(sign) }
 }
 
 fn main() {
-    let mut sign = [0u8; 1];
     let mut read: u64 = 0;
     let mut passed: u64 = 0;
-    for _ in 0..1000u16 {
-        if io::read_full(STDIN, &mut sign) < 1 {
-            break;
-        }
-        if sign[0] != b'#' {
-            read = std::num::wrapping_add_u64(read, 1);
-            passed = std::num::wrapping_add_u64(passed, vector(sign[0]));
+    for [sign] in Blocks::<1>::new(1000) {
+        if sign != b'#' {
+            read = read.wrapping_add(1);
+            passed = passed.wrapping_add(u64::from(vector(sign)));
         }
         skip();
     }

@@ -1,3 +1,4 @@
 pub mod Halves
 pub mod Promises
 pub mod Quiet
+pub mod Search

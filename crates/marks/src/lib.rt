@@ -1,38 +1,35 @@
 // The mark: whether an operation moves a lane to an end of its range.
 #![tactic(auto)]
 
-ghost use Rattle.std.specs.Prelude.{◌≡◌, ◌+◌, ◌/◌, ◌%◌, ◌^◌, ◌<◌, ◌≤◌};
+ghost use Rattle.std.specs.Prelude.{◌≡◌, ◌+◌, ◌*◌, ◌≤◌};
 ghost use Rattle.laws.specs.Choice.{either};
+ghost use Rattle.lanes.specs.Promises.{lane_at};
 ghost use Rattle.marks.specs.Moved.{lane_moved, some_moved, lanes_moved, moved_by};
 
-use arithmetic::arith::cut;
-use insn::widths::bits;
+use arithmetic::arith::Bits;
+use arithmetic::whole::Place;
 use insn::{Sign, Width};
 use lanes::LaneOp;
 use operations::Operation;
 use saturating::SaturatingOp;
 
-// Whether the lane that starts at bit `at` is moved.
-fn lane_moved(op: SaturatingOp, s: Sign, w: u32, at: u32, n: u64, m: u64) -> bool
-    requires { (0 < w) × (at + w ≤ 64) }
-    ensures { result ≡ lane_moved op s w (n / 2 ^ at % 2 ^ w) (m / 2 ^ at % 2 ^ w) }
+// Whether the lane at one place is moved.
+fn lane_moved(op: SaturatingOp, s: Sign, p: Place, n: u64, m: u64) -> bool
+    ensures { result ≡ lane_moved op s p.bits.count (lane_at p.bits.count p.i n) (lane_at p.bits.count p.i m) }
 {
-    saturating::moved(op, s, w, cut(w, n >> at), cut(w, m >> at))
+    saturating::moved(op, s, p.sources(n, m))
 }
 
-// Whether a saturating operation moves a lane of a word, from the highest down.
+// Whether a saturating operation moves a lane of a word.
 fn some_moved(op: SaturatingOp, s: Sign, w: Width, n: u64, m: u64) -> bool
     ensures { result ≡ some_moved 64 op s w n m }
 {
-    let b = bits(w);
-    let mut i = 64 / b;
-    while 0 < i {
-        i -= 1;
-        if lane_moved(op, s, b, b * i, n, m) {
-            return true;
-        }
-    }
-    false
+    let b = Bits::from(w);
+    (0..64 / b.count).any(
+        |i|
+            requires { b.count * i + b.count ≤ 64 }
+        { lane_moved(op, s, Place { bits: b, i }, n, m) },
+    )
 }
 
 // The same of any lane operation: no other moves one.

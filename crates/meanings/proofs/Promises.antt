@@ -7,7 +7,10 @@ use Rattle.laws.specs.Answer.{Answer, refused}
 use Rattle.laws.specs.Choice.{choose}
 use Rattle.laws.proofs.Never.{never}
 use Rattle.insn.proofs.Promises.{numbered_apart}
-use Rattle.meanings.specs.declared.Meaning.TheVariants.{Does, Doubles, Refused}
+use Rattle.std.specs.Prelude.{Ok, Err}
+use Rattle.meanings.specs.declared.Action.{Action}
+use Rattle.meanings.specs.declared.Action.TheVariants.{Does, Doubles}
+use Rattle.meanings.specs.Answers.{act_of}
 use Rattle.forms.proofs.Promises.{no-form}
 use Rattle.meanings.specs.Meaning.{Act, double, meaning_in, meaning_of}
 use Rattle.meanings.specs.Promises.{Unlisted, LanesTo32, MeaningsApart}
@@ -24,13 +27,14 @@ unlisted i e = rw (no-form i.mnemonic e) (none (eqb i.count 0))
 pub lanes_to32 : LanesTo32
 lanes_to32 i op w r e = (meant i (double op w r) e).sound
 
+actions_apart : (x y : Action) → act_of x ≡ act_of y → x ≡ y
+actions_apart (Does p r) (Does q s) e = let k : p ≡ q = cc in let m : r ≡ s = cc in λ i. Does (k i) (m i)
+actions_apart (Does p r) (Doubles q w s) e = never (cc)
+actions_apart (Doubles p v r) (Does q s) e = never (cc)
+actions_apart (Doubles p v r) (Doubles q w s) e = let k : p ≡ q = cc in let l : v ≡ w = cc in let m : r ≡ s = cc in λ i. Doubles (k i) (l i) (m i)
+
 pub meanings_apart : MeaningsApart
-meanings_apart (Does p r) (Does q s) e = let k : p ≡ q = cc in let m : r ≡ s = cc in λ i. Does (k i) (m i)
-meanings_apart (Does p r) (Doubles q w s) e = never (cc)
-meanings_apart (Does p r) (Refused g) e = never (cc)
-meanings_apart (Doubles p v r) (Does q s) e = never (cc)
-meanings_apart (Doubles p v r) (Doubles q w s) e = let k : p ≡ q = cc in let l : v ≡ w = cc in let m : r ≡ s = cc in λ i. Doubles (k i) (l i) (m i)
-meanings_apart (Doubles p v r) (Refused g) e = never (cc)
-meanings_apart (Refused f) (Does q s) e = never (cc)
-meanings_apart (Refused f) (Doubles q w s) e = never (cc)
-meanings_apart (Refused f) (Refused g) e = ap Refused (numbered_apart f g (cc))
+meanings_apart (Ok x) (Ok y) e = ap Ok (actions_apart x y (cc))
+meanings_apart (Ok x) (Err g) e = never (cc)
+meanings_apart (Err f) (Ok y) e = never (cc)
+meanings_apart (Err f) (Err g) e = ap Err (numbered_apart f g (cc))

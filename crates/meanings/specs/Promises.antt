@@ -1,12 +1,13 @@
 -- Promises beyond the contracts; proofs/Promises.antt proves each under its name.
 -- Assumes nothing.
-use Rattle.std.specs.Prelude.{false, ◌≡◌, ◌≤◌}
+use Rattle.std.specs.Prelude.{false, ◌≡◌, ◌≤◌, Result}
 use Rattle.laws.specs.Answer.{accepted, refused}
 use Rattle.insn.specs.declared.Insn.{Insn}
+use Rattle.insn.specs.declared.Refusal.{Refusal}
 use Rattle.insn.specs.declared.Width.{Width}
 use Rattle.insn.specs.Widths.{bits_of}
 use Rattle.double_lanes.specs.declared.DoubleOp.{DoubleOp}
-use Rattle.meanings.specs.declared.Meaning.{Meaning}
+use Rattle.meanings.specs.declared.Action.{Action}
 use Rattle.meanings.specs.declared.Numbers.{Numbers}
 use Rattle.meanings.specs.Answers.{meaning_answer}
 use Rattle.forms.specs.Promises.{listed}
@@ -22,4 +23,4 @@ LanesTo32 = (i : Insn) (op : DoubleOp) (w : Width) (r : Numbers) → meaning_of 
 
 -- an answer says which case it is
 abbrev pub MeaningsApart : Type 0
-MeaningsApart = (x y : Meaning) → meaning_answer x ≡ meaning_answer y → x ≡ y
+MeaningsApart = (x y : Result Action Refusal) → meaning_answer x ≡ meaning_answer y → x ≡ y

@@ -2,18 +2,16 @@
 #![tactic(auto)]
 
 ghost use Rattle.std.specs.Prelude.{◌≡◌};
-ghost use Rattle.floats.specs.Answers.{float_found_answer};
-ghost use Rattle.immediates.specs.Answers.{expansion_answer};
+ghost use Rattle.insn.specs.Answers.{answer};
 ghost use Rattle.fields.specs.Registers.{vec_bits};
 ghost use Rattle.meanings.specs.Answers.{gathered_answer, meaning_answer};
-ghost use Rattle.meanings.specs.Meaning.{same_lengths, gathered, count_of, shifting, repeated, whole_pattern, pattern_at, float_pattern, on, on_unlike, meaning_in, meaning_of};
+ghost use Rattle.meanings.specs.Meaning.{gathered, count_of, shifting, repeated, whole_pattern, float_pattern, on, on_unlike, meaning_in, meaning_of};
 ghost use Rattle.forms.specs.declared.Form.TheVariants.{Shift, Number, Float};
 
 use double_lanes::{DoubleOp, LongOp, NarrowOp, lengths_of};
-use fields::VectorBits;
-use floats::{FloatFound, float_imm8};
+use floats::float_imm8;
 use forms::{Direction, Form};
-use immediates::{Expansion, expand_imm};
+use immediates::expand_imm;
 use insn::{Insn, Operand, Refusal, Width};
 use lanes::LaneOp;
 use named_forms::form_of;
@@ -37,19 +35,11 @@ pub struct Numbers {
     pub m: u8,
 }
 
-// Three operands as registers: which of them are quadwords, and their numbers; or the refusal.
+// What a record does: an operation on registers of one length, or of its own lengths.
 #[derive(Clone, Copy)]
-enum Gathered {
-    Three(Lengths, Numbers),
-    Refused(Refusal),
-}
-
-// What `meaning_of` answers: an operation on registers of one length, or of its own lengths, or the refusal.
-#[derive(Clone, Copy)]
-pub enum Meaning {
+pub enum Action {
     Does(Operation, Registers),
     Doubles(DoubleOp, Width, Numbers),
-    Refused(Refusal),
 }
 
 // How many operands a form has.
@@ -57,137 +47,89 @@ fn count(form: Form) -> u8
     ensures { result ≡ count_of form }
 {
     match form {
-        Form::Lanes(_, _) => 3,
-        Form::Bits(_) => 3,
-        Form::Copy => 2,
-        Form::Shift(_, _) => 3,
-        Form::Double(_, _) => 3,
-        Form::Extend(_, _) => 2,
-        Form::Number(_, _) => 2,
-        Form::Float => 2,
+        Form::Lanes(_, _) | Form::Bits(_) | Form::Shift(_, _) | Form::Double(_, _) => 3,
+        Form::Copy | Form::Extend(_, _) | Form::Number(_, _) | Form::Float => 2,
         Form::Nothing => 0,
     }
 }
 
-fn gather(a: Operand, b: Operand, c: Operand) -> Gathered
+// Three operands as registers: which of them are quadwords, and their numbers.
+#[tactic(auto, unfolding(crate::specs::Meaning::gathered))]
+fn gather(a: Operand, b: Operand, c: Operand) -> Result<(Lengths, Numbers), Refusal>
     ensures { gathered_answer result ≡ gathered (vec_bits a) (vec_bits b) (vec_bits c) }
 {
-    let x = fields::vec_bits(a);
-    let y = fields::vec_bits(b);
-    let z = fields::vec_bits(c);
-    let VectorBits::Are(quad, d) = x else {
-        return Gathered::Refused(Refusal::NoMeaning);
-    };
-    let VectorBits::Are(quad_n, n) = y else {
-        return Gathered::Refused(Refusal::NoMeaning);
-    };
-    let VectorBits::Are(quad_m, m) = z else {
-        return Gathered::Refused(Refusal::NoMeaning);
-    };
-    Gathered::Three(
+    let (quad, d) = fields::vec_bits(a).or(Err(Refusal::NoMeaning))?;
+    let (quad_n, n) = fields::vec_bits(b).or(Err(Refusal::NoMeaning))?;
+    let (quad_m, m) = fields::vec_bits(c).or(Err(Refusal::NoMeaning))?;
+    Ok((
         Lengths {
             d: quad,
             n: quad_n,
             m: quad_m,
         },
         Numbers { d, n, m },
-    )
-}
-
-fn same_lengths(x: Lengths, y: Lengths) -> bool
-    ensures { result ≡ same_lengths x y }
-{
-    if x.d != y.d {
-        return false;
-    }
-    if x.n != y.n {
-        return false;
-    }
-    x.m == y.m
+    ))
 }
 
 // An operation on registers of one length.
-fn on_registers(op: Operation, a: Operand, b: Operand, c: Operand) -> Meaning
+#[tactic(auto, unfolding(crate::specs::Meaning::acting))]
+fn on_registers(op: Operation, a: Operand, b: Operand, c: Operand) -> Result<Action, Refusal>
     ensures { meaning_answer result ≡ on op a b c }
 {
-    let found = gather(a, b, c);
-    match found {
-        Gathered::Three(l, r) => {
-            if !same_lengths(l, alike(l.d)) {
-                return Meaning::Refused(Refusal::NoMeaning);
-            }
-            Meaning::Does(
-                op,
-                Registers {
-                    quad: l.d,
-                    d: r.d,
-                    n: r.n,
-                    m: r.m,
-                },
-            )
-        }
-        Gathered::Refused(f) => Meaning::Refused(f),
+    let (l, r) = gather(a, b, c)?;
+    if l != alike(l.d) {
+        return Err(Refusal::NoMeaning);
     }
+    Ok(Action::Does(
+        op,
+        Registers {
+            quad: l.d,
+            d: r.d,
+            n: r.n,
+            m: r.m,
+        },
+    ))
 }
 
 // An operation on registers of its own lengths.
-fn on_unlike(op: DoubleOp, w: Width, a: Operand, b: Operand, c: Operand) -> Meaning
+#[tactic(auto, unfolding(crate::specs::Meaning::doubling))]
+fn on_unlike(op: DoubleOp, w: Width, a: Operand, b: Operand, c: Operand) -> Result<Action, Refusal>
     ensures { meaning_answer result ≡ on_unlike op w a b c }
 {
-    let found = gather(a, b, c);
-    match found {
-        Gathered::Three(l, r) => {
-            if !same_lengths(l, lengths_of(op)) {
-                return Meaning::Refused(Refusal::NoMeaning);
-            }
-            Meaning::Doubles(op, w, r)
-        }
-        Gathered::Refused(f) => Meaning::Refused(f),
+    let (l, r) = gather(a, b, c)?;
+    if l != lengths_of(op) {
+        return Err(Refusal::NoMeaning);
     }
+    Ok(Action::Doubles(op, w, r))
 }
 
 // The 64 bits of a whole number.
-fn whole_pattern(o: Operand) -> Expansion
-    ensures { expansion_answer result ≡ whole_pattern o }
+#[tactic(auto, unfolding(crate::specs::Meaning::whole_pattern))]
+fn whole_pattern(o: Operand) -> Result<u64, Refusal>
+    ensures { answer result ≡ whole_pattern o }
 {
     match o {
-        Operand::Imm(v) => Expansion::Pattern(insn::signed::pattern_of(v)),
-        Operand::D(_) => Expansion::Refused(Refusal::NoMeaning),
-        Operand::Q(_) => Expansion::Refused(Refusal::NoMeaning),
-        Operand::S(_) => Expansion::Refused(Refusal::NoMeaning),
-        Operand::Float(_) => Expansion::Refused(Refusal::NoMeaning),
-        Operand::Other => Expansion::Refused(Refusal::NoMeaning),
-        Operand::Absent => Expansion::Refused(Refusal::NoMeaning),
-    }
-}
-
-// The pattern of the float of an immediate, if there is one.
-fn found_pattern(found: FloatFound) -> Expansion
-    ensures { expansion_answer result ≡ pattern_at (float_found_answer found) }
-{
-    match found {
-        FloatFound::Imm8(b) => expand_imm(0, 15, b),
-        FloatFound::NoImm8 => Expansion::Refused(Refusal::NoMeaning),
+        Operand::Imm(v) => Ok(insn::signed::pattern_of(v)),
+        _ => Err(Refusal::NoMeaning),
     }
 }
 
 // The single-precision pattern of a float that a pair carries, twice.
-fn float_pattern(o: Operand) -> Expansion
-    ensures { expansion_answer result ≡ float_pattern o }
+#[tactic(auto, unfolding(crate::specs::Meaning::float_pattern, immediates::specs::Modified::constant_at, immediates::specs::Modified::element, immediates::specs::Modified::pattern_in))]
+fn float_pattern(o: Operand) -> Result<u64, Refusal>
+    ensures { answer result ≡ float_pattern o }
 {
     match o {
-        Operand::Float(x) => found_pattern(float_imm8(x)),
-        Operand::D(_) => Expansion::Refused(Refusal::NoMeaning),
-        Operand::Q(_) => Expansion::Refused(Refusal::NoMeaning),
-        Operand::S(_) => Expansion::Refused(Refusal::NoMeaning),
-        Operand::Imm(_) => Expansion::Refused(Refusal::NoMeaning),
-        Operand::Other => Expansion::Refused(Refusal::NoMeaning),
-        Operand::Absent => Expansion::Refused(Refusal::NoMeaning),
+        Operand::Float(x) => {
+            let imm8 = float_imm8(x).ok_or(Refusal::NoMeaning)?;
+            expand_imm(0, 15, imm8)
+        }
+        _ => Err(Refusal::NoMeaning),
     }
 }
 
 // A shift of b by k places.
-fn shifted_by(way: Direction, w: Width, k: u32, a: Operand, b: Operand) -> Meaning
+fn shifted_by(way: Direction, w: Width, k: u32, a: Operand, b: Operand) -> Result<Action, Refusal>
     ensures { meaning_answer result ≡ shifting way w k a b }
 {
     match way {
@@ -199,6 +141,7 @@ fn shifted_by(way: Direction, w: Width, k: u32, a: Operand, b: Operand) -> Meani
 }
 
 // The lowest bits of p, as many as the width has, in every element of 64 bits.
+#[tactic(auto, unfolding(crate::specs::Meaning::repeated))]
 fn repeat(w: Width, p: u64) -> u64
     ensures { result ≡ repeated w p }
 {
@@ -211,45 +154,38 @@ fn repeat(w: Width, p: u64) -> u64
 }
 
 // A shift of b by the amount c.
-fn shifted(way: Direction, w: Width, a: Operand, b: Operand, c: Operand) -> Meaning
+#[tactic(auto, unfolding(crate::specs::Meaning::meaning_in))]
+fn shifted(way: Direction, w: Width, a: Operand, b: Operand, c: Operand) -> Result<Action, Refusal>
     ensures { meaning_answer result ≡ meaning_in (Shift way w) a b c }
 {
-    let amount = whole_pattern(c);
-    match amount {
-        Expansion::Pattern(k) => {
-            if 64 < k {
-                return Meaning::Refused(Refusal::NoMeaning);
-            }
-            shifted_by(way, w, k as u32, a, b)
-        }
-        Expansion::Refused(f) => Meaning::Refused(f),
+    let k = whole_pattern(c)?;
+    if 64 < k {
+        return Err(Refusal::NoMeaning);
     }
+    shifted_by(way, w, k as u32, a, b)
 }
 
 // What the number b does to a.
-fn with_number(op: ConstantOp, w: Width, a: Operand, b: Operand) -> Meaning
+#[tactic(auto, unfolding(crate::specs::Meaning::meaning_in))]
+fn with_number(op: ConstantOp, w: Width, a: Operand, b: Operand) -> Result<Action, Refusal>
     ensures { meaning_answer result ≡ meaning_in (Number op w) a b b }
 {
-    let number = whole_pattern(b);
-    match number {
-        Expansion::Pattern(p) => { on_registers(Operation::Constant(op, repeat(w, p)), a, a, a) }
-        Expansion::Refused(f) => Meaning::Refused(f),
-    }
+    let p = whole_pattern(b)?;
+    on_registers(Operation::Constant(op, repeat(w, p)), a, a, a)
 }
 
 // The target a set to the float b.
-fn with_float(a: Operand, b: Operand) -> Meaning
+#[tactic(auto, unfolding(crate::specs::Meaning::meaning_in))]
+fn with_float(a: Operand, b: Operand) -> Result<Action, Refusal>
     ensures { meaning_answer result ≡ meaning_in Float a b b }
 {
-    let number = float_pattern(b);
-    match number {
-        Expansion::Pattern(p) => on_registers(Operation::Constant(ConstantOp::Mov, p), a, a, a),
-        Expansion::Refused(f) => Meaning::Refused(f),
-    }
+    let p = float_pattern(b)?;
+    on_registers(Operation::Constant(ConstantOp::Mov, p), a, a, a)
 }
 
 // The meaning of a form with its operands.
-fn meaning_in(form: Form, a: Operand, b: Operand, c: Operand) -> Meaning
+#[tactic(auto, unfolding(crate::specs::Meaning::meaning_in))]
+fn meaning_in(form: Form, a: Operand, b: Operand, c: Operand) -> Result<Action, Refusal>
     ensures { meaning_answer result ≡ meaning_in form a b c }
 {
     match form {
@@ -261,20 +197,18 @@ fn meaning_in(form: Form, a: Operand, b: Operand, c: Operand) -> Meaning
         Form::Extend(s, w) => on_unlike(DoubleOp::Long(LongOp::Mov, s), w, a, b, b),
         Form::Number(op, w) => with_number(op, w, a, b),
         Form::Float => with_float(a, b),
-        Form::Nothing => Meaning::Refused(Refusal::NoMeaning),
+        Form::Nothing => Err(Refusal::NoMeaning),
     }
 }
 
 // The meaning of a record.
-pub fn meaning_of(i: Insn) -> Meaning
+#[tactic(auto, unfolding(crate::specs::Meaning::meaning_of))]
+pub fn meaning_of(i: Insn) -> Result<Action, Refusal>
     ensures { meaning_answer result ≡ meaning_of i }
 {
     let form = form_of(i.mnemonic);
     if i.count != count(form) {
-        return Meaning::Refused(Refusal::NoMeaning);
+        return Err(Refusal::NoMeaning);
     }
-    let a = i.first;
-    let b = i.second;
-    let c = i.third;
-    meaning_in(form, a, b, c)
+    meaning_in(form, i.first, i.second, i.third)
 }

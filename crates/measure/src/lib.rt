@@ -1,19 +1,18 @@
 // The first fault of steps, or how many pairs they are written as.
 #![tactic(auto)]
 
-ghost use Rattle.std.specs.Prelude.{◌≡◌, true, ℕ, ◌*◌, ◌≤◌, length};
+ghost use Rattle.std.specs.Prelude.{◌≡◌, ℕ, ◌*◌, ◌/◌, ◌≤◌, length};
 ghost use Rattle.laws.specs.AnswerAt.{accepted};
-ghost use Rattle.measure.specs.Own.{measured_answer};
+ghost use Rattle.steps.specs.Answers.{answer_at};
 ghost use Rattle.recipes.specs.Pairs.{add_byte, word_pairs, half_pairs, pairs_by, pairs_of};
 ghost use Rattle.steps.specs.Faults.{first_fault, unless_fault};
-ghost use Rattle.steps.specs.Rules.{keeps};
-ghost use Rattle.steps.specs.Steps.{steps_from};
+ghost use Rattle.steps.specs.Steps.{steps_of};
 
-use insn::Refusal;
 use recipes::{Recipe, recipe_of};
+use steps::Terms;
 use steps::bytes::step_at;
-use steps::faults::{Verdict, step_fault, with_row};
-use steps::{Step, Terms};
+use steps::faults::{SheetError, step_fault, with_row};
+use steps::lawful::LawfulStep;
 
 // A byte of a constant's word, the word, and the half.
 fn of_byte(byte: u32) -> u64
@@ -42,13 +41,12 @@ fn of_half(v: u64) -> u64
 }
 
 // The pairs of a step.
-fn of_step(s: Step) -> u64
-    requires { keeps s ≡ true }
-    ensures { (result ≡ length (pairs_by s.kind s)) × (result ≤ 20) }
+fn of_step(s: LawfulStep) -> u64
+    ensures { (result ≡ length (pairs_by s.step.kind s.step)) × (result ≤ 20) }
 {
-    let k = s.kind;
+    let k = s.step.kind;
     if k == 0 {
-        of_half(s.low) + of_half(s.high)
+        of_half(s.step.low) + of_half(s.step.high)
     } else if k == 8 {
         2
     } else if k == 14 {
@@ -58,35 +56,25 @@ fn of_step(s: Step) -> u64
     }
 }
 
-// What `measure` finds: the pairs of all steps; or the first fault, with the index of its step.
-#[derive(Clone, Copy)]
-pub enum Measured {
-    Pairs(u64),
-    Faulty(Refusal, u64),
-}
-
-// Goes over n steps, as far as the first fault. A step's target is filled after the step.
-pub fn measure(sheet: &[u8], n: usize, terms: Terms) -> Measured
-    requires { (24 * n ≤ length sheet.now) × (n ≤ 256) }
-    ensures { measured_answer result ≡ unless_fault (first_fault terms (steps_from sheet.now 0 n)) (accepted (length (pairs_of (steps_from sheet.now 0 n)))) }
+// The pairs of a sheet's steps; or the first fault. A step's target is filled after the step.
+pub fn measure(sheet: &[u8], terms: Terms) -> Result<u64, SheetError>
+    requires { length sheet.now / 24 ≤ 256 }
+    ensures { answer_at result ≡ unless_fault (first_fault terms (steps_of sheet.now)) (accepted (length (pairs_of (steps_of sheet.now)))) }
 {
     let mut filled = terms.filled;
-    let mut i = 0;
     let mut pairs = 0;
-    while i < n {
-        let s = step_at(sheet, 24 * i);
-        let after = with_row(filled, s.target);
-        let verdict = step_fault(s, filled);
-        match verdict {
-            Verdict::Faulty(cause) => {
-                return Measured::Faulty(cause, i as u64);
+    for i in 0..sheet.len() / 24 {
+        let s = match step_fault(step_at(sheet, 24 * i), filled) {
+            Ok(s) => s,
+            Err(cause) => {
+                return Err(SheetError {
+                    cause,
+                    step: Some(i as u64),
+                });
             }
-            Verdict::Sound => {
-                pairs += of_step(s);
-                filled = after;
-                i += 1;
-            }
-        }
+        };
+        pairs += of_step(s);
+        filled = with_row(filled, s.step.target);
     }
-    Measured::Pairs(pairs)
+    Ok(pairs)
 }

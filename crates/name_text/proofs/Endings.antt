@@ -1,7 +1,7 @@
 -- A name that is put with no branch: after each byte, a space at the next place would end it.
 -- Assumes nothing.
 use mathlib.Core.Path.{◌≡◌, refl, sym, ap, ◌∙◌}
-use mathlib.Core.Bool.{Bool, true, false}
+use mathlib.Core.Bool.{Bool, true, false, not}
 use mathlib.Core.List.{List, [], ◌∷◌, ◌++◌}
 use Prim.Native.Nat.{ℕ, ◌+◌, ◌≤◌}
 use native.Mathlib.Nat.{add-zero}
@@ -11,11 +11,11 @@ use lib.Dec.{eqb}
 use lib.ListN.{length, set, take, drop, length-append}
 use lib.Seq.{sets, set-set, take-suc, take_all}
 use borrow.Author.Tests.{eqb-true, eqb-false}
-use Rattle.laws.specs.Choice.{choose}
+use mir.Val.{bool_byte}
 use Rattle.names.specs.Names.{codes, name_of}
 use Rattle.names.specs.Own.{name_byte}
 use Rattle.laws.specs.Placed.{Placed}
-use Rattle.name_text.proofs.Names.{ended, going, ending-byte, ending-length}
+use Rattle.name_text.proofs.Spaces.{ended, going, ending-byte, ending-length}
 use Rattle.laws.proofs.Placed.{sets_then}
 
 -- text stands in the buffer from place i to p, and a space stored at p would come after it; what is at p does not matter
@@ -40,27 +40,27 @@ stored {l = l} {l' = l'} {i = i} {p = p} t c f =
     ∙ ap (λ (k : ℕ). set (sets l i (t ++ 32 ∷ [])) k c) f.next
     ∙ replaced l i t 32 c
 
-pub ready-byte : {l l' l'' : List ℕ} {i p r : ℕ} (t : List ℕ) (c : ℕ) → Ready l i t l' p → Placed 1 l' p (c ∷ []) l'' r → Ready l i (t ++ c ∷ []) l'' (p + 1)
+pub ready-byte : {l l' l'' : List ℕ} {i p : ℕ} (t : List ℕ) (c : ℕ) → Ready l i t l' p → l'' ≡ set l' p c → Ready l i (t ++ c ∷ []) l'' (p + 1)
 ready-byte {l = l} {i = i} {p = p} t c f q =
     let e : p + 1 ≡ i + length (t ++ c ∷ []) = omega (arith, f.next, length-append t (c ∷ [])) in
     record {
-      spaced = rw (q.stored ∙ stored t c f, e) (sets_then (t ++ c ∷ []) l i (32 ∷ []));
+      spaced = rw (q ∙ stored t c f, e) (sets_then (t ++ c ∷ []) l i (32 ∷ []));
       next = e;
     }
 
-pub ready-space : {l l' l'' : List ℕ} {i p r : ℕ} (t : List ℕ) → Ready l i t l' p → Placed 1 l' p (32 ∷ []) l'' r → Ready l i t l'' p
-ready-space {l' = l'} {p = p} t f q = record { spaced = rw q.stored (set-set l' p 32 32 ∙ f.spaced); next = f.next }
+pub ready-space : {l l' l'' : List ℕ} {i p : ℕ} (t : List ℕ) → Ready l i t l' p → l'' ≡ set l' p 32 → Ready l i t l'' p
+ready-space {l' = l'} {p = p} t f q = record { spaced = rw q (set-set l' p 32 32 ∙ f.spaced); next = f.next }
 
-pub ready-end : {l l' l'' : List ℕ} {i p r b : ℕ} (t : List ℕ) → length t ≤ b → Ready l i t l' p → Placed 1 l' p (32 ∷ []) l'' r → Placed (b + 1) l i (t ++ 32 ∷ []) l'' r
+pub ready-end : {l l' l'' : List ℕ} {i p b : ℕ} (t : List ℕ) → length t ≤ b → Ready l i t l' p → l'' ≡ set l' p 32 → Placed (b + 1) l i (t ++ 32 ∷ []) l'' (p + 1)
 ready-end t h f q = record {
-  stored = q.stored ∙ f.spaced;
-  next = omega (arith, q.next, f.next, length-append t (32 ∷ []));
+  stored = q ∙ f.spaced;
+  next = omega (arith, f.next, length-append t (32 ∷ []));
   short = omega (arith, length-append t (32 ∷ []));
 }
 
--- one byte of a name's row after the fourth
-pub ending-turn : {l l' l'' : List ℕ} {i p r w : ℕ} (m j c : ℕ) → c ≡ name_byte m (4 + j) → w ≡ choose (eqb c 32) 0 1
-    → Ready l i (take j (drop 4 (codes (name_of m)))) l' p → Placed 1 l' p (c ∷ []) l'' r → Ready l i (take (j + 1) (drop 4 (codes (name_of m)))) l'' (p + w)
+-- a byte of a name's row after the fourth, and where the next goes
+pub ending-turn : {l l' l'' : List ℕ} {i p w : ℕ} (m j c : ℕ) → c ≡ name_byte m (4 + j) → w ≡ bool_byte (not (eqb c 32))
+    → Ready l i (take j (drop 4 (codes (name_of m)))) l' p → l'' ≡ set l' p c → Ready l i (take (j + 1) (drop 4 (codes (name_of m)))) l'' (p + w)
 ending-turn {l = l} {l'' = l''} {i = i} {p = p} {w = w} m j c b e f q = go (eqb c 32) refl
   where
     go : (t : Bool) → eqb c 32 ≡ t → Ready l i (take (j + 1) (drop 4 (codes (name_of m)))) l'' (p + w)
@@ -75,3 +75,7 @@ ending-turn {l = l} {l'' = l''} {i = i} {p = p} {w = w} m j c b e f q = go (eqb 
         let h = going m (4 + j) (λ z. eqb-false c 32 k (b ∙ z)) in
         let a : take (j + 1) s ≡ take j s ++ c ∷ [] = rw (add-one, b, ending-byte m j h) (take-suc s j 0 (omega (arith, h, ending-length m))) in
         rw (a, e, k) (ready-byte (take j s) c f q)
+
+pub step-small : {w : ℕ} (b : Bool) → w ≡ bool_byte b → w ≤ 1
+step-small true e = omega arith
+step-small false e = omega arith

@@ -1,2 +1,2 @@
-pub mod Names
+pub mod Spaces
 pub mod Endings

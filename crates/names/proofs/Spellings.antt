@@ -50,10 +50,10 @@ laid-byte m j k h = laid-at 32 12 (map codes names) m j k h ∙ ap (λ (l : List
 abbrev pairwise_bit : ℕ → Bool
 pairwise_bit m = eqb (get_or (0 ∷ 0x73f0 ∷ 0x1813_f000_0000 ∷ 0 ∷ 0 ∷ 0 ∷ []) (m / 64) 0 / 2 ^ (m % 64) % 2) 1
 
-pub pairwise-bit : (m : ℕ) → m < 346 → pairwise_bit m ≡ pairwise (name_of m)
+pub pairwise_bits : (m : ℕ) → m < 346 → pairwise_bit m ≡ pairwise (name_of m)
 unfolding values names name_of pairwise
-pairwise-bit = agree pairwise_bit (λ (m : ℕ). pairwise (name_of m)) 346 refl
+pairwise_bits = agree pairwise_bit (λ (m : ℕ). pairwise (name_of m)) 346 refl
 
-pub no-pairwise : (m : ℕ) → 346 ≤ m → false ≡ pairwise (name_of m)
+pub no_pairwise : (m : ℕ) → 346 ≤ m → false ≡ pairwise (name_of m)
 unfolding pairwise
-no-pairwise m h = sym (ap pairwise (no_name m h))
+no_pairwise m h = sym (ap pairwise (no_name m h))

@@ -1,4 +1,4 @@
--- For the contracts of `table` and of the functions that it is lent to alone: what the table of bytes holds.
+-- For the contract of `table`, and of the type that keeps it: what the table of bytes holds.
 -- Assumes nothing.
 use Rattle.std.specs.Prelude.{List, ◌≡◌, ℕ, ◌+◌, ◌*◌, ◌<◌, get_or}
 use Rattle.names.specs.Names.{name_of, codes}

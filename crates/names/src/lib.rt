@@ -115,6 +115,7 @@ pub fn table() -> [u8; 4152]
 const PAIRWISE: [u64; 6] = [0, 0x73f0, 0x1813_f000_0000, 0, 0, 0];
 
 // Whether mnemonic m is pairwise: its spelling begins with vp.
+#[tactic(auto, using(crate::proofs::Spellings::pairwise_bits, crate::proofs::Spellings::no_pairwise))]
 pub fn is_pairwise(m: u16) -> bool
     ensures { result ≡ pairwise (name_of m) }
 {
@@ -129,5 +130,5 @@ pub fn is_pairwise(m: u16) -> bool
 pub fn is_pairwise_quad(quad: bool, m: u16) -> bool
     ensures { result ≡ both quad (pairwise (name_of m)) }
 {
-    if quad { is_pairwise(m) } else { false }
+    quad && is_pairwise(m)
 }

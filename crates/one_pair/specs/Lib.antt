@@ -1,4 +1,3 @@
 pub mod One
-pub mod Answers
 pub mod Own
 pub mod Promises

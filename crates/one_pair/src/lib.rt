@@ -5,19 +5,11 @@ ghost use Rattle.std.specs.Prelude.{true, ◌≡◌, ◌≢◌, ◌*◌, ◌/◌
 ghost use Rattle.tables.specs.Cells.{cell_at};
 ghost use Rattle.immediate_tables.specs.Modimm.{modimm};
 ghost use Rattle.fields.specs.Halfwords.{bit, field};
-ghost use Rattle.one_pair.specs.Answers.{one_answer};
+ghost use Rattle.laws.specs.Search.{found};
 ghost use Rattle.one_pair.specs.One.{setting, one_at, one_for};
 ghost use Rattle.one_pair.specs.Own.{turned as turned_of, Covers};
 
 use immediate_values::{byte_bits, halfword_offset, word_offset};
-use immediates::Expansion;
-
-// A place op:cmode:imm8, or none.
-#[derive(Clone, Copy)]
-pub enum OnePair {
-    Place(u16),
-    Nowhere,
-}
 
 // The first places of rows op:cmode, and of the rows with op 1.
 const HALFWORDS: u16 = 0x800;
@@ -117,20 +109,19 @@ fn is_left(t: u16, v: u64) -> bool
     if immediates::is_zero_refused(row % 16, imm8) {
         return false;
     }
-    let e = immediates::expand_imm(row / 16, row % 16, imm8);
-    match e {
-        Expansion::Pattern(p) => turned(row, p) == v,
-        Expansion::Refused(_) => false,
+    match immediates::expand_imm(row / 16, row % 16, imm8) {
+        Ok(p) => turned(row, p) == v,
+        Err(_) => false,
     }
 }
 
 // The lowest place that leaves v.
-pub fn one_for(v: u64) -> OnePair
-    ensures { one_answer result ≡ one_for v }
+pub fn one_for(v: u64) -> Option<u16>
+    ensures { found result ≡ one_for v }
 {
     let t = candidate(v);
     if is_left(t, v) {
-        return OnePair::Place(t);
+        return Some(t);
     }
-    OnePair::Nowhere
+    None
 }

@@ -66,6 +66,7 @@ fn constant(op: ConstantOp, p: u64, d: u64) -> u64
 }
 
 // The doubleword that an operation leaves: d the old target, n and m the sources.
+#[tactic(auto, unfolding(crate::specs::Operations::result_of))]
 pub fn value(op: Operation, d: u64, n: u64, m: u64) -> u64
     ensures { result ≡ result_of 64 op d n m }
 {

@@ -1,3 +1,2 @@
 pub mod Promises
-pub mod Vectors
 pub mod Parts

@@ -4,7 +4,7 @@
 ghost use Rattle.std.specs.Prelude.{◌≡◌};
 ghost use Rattle.recipes.specs.Pairs.{by_words, recipe_of};
 
-use one_pair::{OnePair, one_for};
+use one_pair::one_for;
 
 pub mod records;
 
@@ -17,6 +17,7 @@ pub enum Recipe {
 }
 
 // How a half is made by words.
+#[tactic(auto, unfolding(crate::specs::Pairs::by_words))]
 fn by_words(v: u64) -> Recipe
     ensures { result ≡ by_words v }
 {
@@ -30,12 +31,12 @@ fn by_words(v: u64) -> Recipe
 }
 
 // How a half of a constant is made: by one pair where one will do.
+#[tactic(auto, unfolding(crate::specs::Pairs::recipe_of))]
 pub fn recipe_of(v: u64) -> Recipe
     ensures { result ≡ recipe_of v }
 {
-    let one = one_for(v);
-    match one {
-        OnePair::Place(t) => Recipe::One(t),
-        OnePair::Nowhere => by_words(v),
+    match one_for(v) {
+        Some(t) => Recipe::One(t),
+        None => by_words(v),
     }
 }

@@ -1,15 +1,14 @@
 // The records that steps are written as.
-ghost use Rattle.std.specs.Prelude.{◌≡◌, true, [], ◌∷◌, ◌≢◌, ◌+◌, ◌<◌, ◌≤◌, eqb, pos};
+ghost use Rattle.std.specs.Prelude.{◌≡◌, [], ◌∷◌, ◌≢◌, ◌+◌, ◌<◌, ◌≤◌, eqb, pos};
 ghost use Rattle.laws.specs.Choice.{choose};
 ghost use Rattle.insn.specs.declared.Mark.TheVariants.{T1};
 ghost use Rattle.insn.specs.declared.Operand.TheVariants.{D, Q, Imm, Absent};
 ghost use Rattle.readings.specs.Operands.{insn as record_of};
 ghost use Rattle.recipes.specs.Pairs.{pairs_by, two_of, three_of};
-ghost use Rattle.steps.specs.Rules.{keeps};
 
 use insn::{Insn, Mark, Operand};
 use names::{VMOV, VORR};
-use steps::Step;
+use steps::lawful::LawfulStep;
 
 // Mnemonic numbers; a name with lanes stands here for its first width, and the others follow.
 const VAND: u16 = 10;
@@ -129,10 +128,11 @@ fn by_sign(sign: u8, width: u8, signed: u16, unsigned: u16) -> u16
 }
 
 // The mnemonic of kinds 2 to 7: sum, difference, product; and, or, exclusive or.
-fn joining(s: Step) -> u16
-    requires { (keeps s ≡ true) × ((2 ≤ s.kind) × (s.kind < 8)) }
-    ensures { (record_of result T1 0 3 (Q s.target) (Q s.a) (Q s.b) ∷ []) ≡ pairs_by s.kind s }
+fn joining(s: LawfulStep) -> u16
+    requires { (2 ≤ s.step.kind) × (s.step.kind < 8) }
+    ensures { (record_of result T1 0 3 (Q s.step.target) (Q s.step.a) (Q s.step.b) ∷ []) ≡ pairs_by s.step.kind s.step }
 {
+    let s = s.step;
     let k = s.kind;
     if k < 5 {
         match k {
@@ -150,10 +150,11 @@ fn joining(s: Step) -> u16
 }
 
 // Kinds 9 and 10: left, and right, which is a copy for amount 0.
-fn shift(s: Step) -> Insn
-    requires { (keeps s ≡ true) × ((9 ≤ s.kind) × (s.kind < 11)) }
-    ensures { (result ∷ []) ≡ pairs_by s.kind s }
+fn shift(s: LawfulStep) -> Insn
+    requires { (9 ≤ s.step.kind) × (s.step.kind < 11) }
+    ensures { (result ∷ []) ≡ pairs_by s.step.kind s.step }
 {
+    let s = s.step;
     let t = Operand::Q(s.target);
     let a = Operand::Q(s.a);
     let amount = immediate(s.amount as u32);
@@ -167,10 +168,11 @@ fn shift(s: Step) -> Insn
 }
 
 // Kinds 11 to 13: greatest, least, and the mask of a < b, which is b > a.
-fn ordering(s: Step) -> Insn
-    requires { (keeps s ≡ true) × ((11 ≤ s.kind) × (s.kind < 14)) }
-    ensures { (result ∷ []) ≡ pairs_by s.kind s }
+fn ordering(s: LawfulStep) -> Insn
+    requires { (11 ≤ s.step.kind) × (s.step.kind < 14) }
+    ensures { (result ∷ []) ≡ pairs_by s.step.kind s.step }
 {
+    let s = s.step;
     let k = s.kind;
     match k {
         11 => rows(by_sign(s.sign, s.width, VMAX_S, VMAX_U), s.target, s.a, s.b),
@@ -180,15 +182,15 @@ fn ordering(s: Step) -> Insn
 }
 
 // The record of a step that is one pair.
-pub fn single(s: Step) -> Insn
-    requires { (keeps s ≡ true) × ((s.kind ≢ 0) × ((s.kind ≢ 8) × (s.kind < 14))) }
-    ensures { (result ∷ []) ≡ pairs_by s.kind s }
+pub fn single(s: LawfulStep) -> Insn
+    requires { (s.step.kind ≢ 0) × ((s.step.kind ≢ 8) × (s.step.kind < 14)) }
+    ensures { (result ∷ []) ≡ pairs_by s.step.kind s.step }
 {
-    let k = s.kind;
+    let k = s.step.kind;
     if k == 1 {
-        copy(s.target, s.a)
+        copy(s.step.target, s.step.a)
     } else if k < 8 {
-        rows(joining(s), s.target, s.a, s.b)
+        rows(joining(s), s.step.target, s.step.a, s.step.b)
     } else if k < 11 {
         shift(s)
     } else {

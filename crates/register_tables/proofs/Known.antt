@@ -1,14 +1,10 @@
--- A cell's number has the cell's name, and the bytes of the code's table have the numbers: antt computes it.
+-- A cell's number has the cell's name: antt computes it.
 -- Assumes nothing.
 use mathlib.Core.Path.{◌≡◌, refl}
-use mathlib.Core.Bool.{false}
-use Prim.Native.Nat.{ℕ, ◌/◌, ◌%◌, ◌<◌}
-use native.Mathlib.Omega.{arith}
-use lib.Text.{eqt}
-use Rattle.laws.proofs.Range.{values, agree, agree2}
+use Prim.Native.Nat.{ℕ, ◌<◌}
+use Rattle.laws.proofs.Range.{values, agree2}
 use Rattle.names.specs.Names.{names, number_of, name_of}
 use Rattle.tables.specs.Cells.{cell_at}
-use Rattle.tables.proofs.Cells.{cell4, from_byte, byte_at, byte-back, not_byte}
 use Rattle.register_tables.specs.Same3.{same3}
 use Rattle.register_tables.specs.Diff.{diff_rows, diff_cells}
 
@@ -19,10 +15,3 @@ same3-known = agree2 (λ (r c : ℕ). name_of (number_of (cell_at same3 r c))) (
 pub diff-known : (r c : ℕ) → r < 32 → c < 4 → name_of (number_of (cell_at diff_cells r c)) ≡ cell_at diff_cells r c
 unfolding values diff_rows diff_cells names name_of number_of
 diff-known = agree2 (λ (r c : ℕ). name_of (number_of (cell_at diff_cells r c))) (cell_at diff_cells) 32 4 refl
-
-pub same3-byte : (k : ℕ) → k < 256 → from_byte (byte_at same3 k) ≡ number_of (cell4 same3 k)
-unfolding values same3
-same3-byte k h =
-    byte-back _
-    (not_byte _ (same3-known (k / 4) (k % 4) (omega arith) (omega arith))
-    (agree (λ (k : ℕ). eqt (cell4 same3 k) "vmovl.s8") (λ (k : ℕ). false) 256 refl k h))

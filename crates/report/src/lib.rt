@@ -2,11 +2,11 @@
 // where it is yes.
 #![tactic(auto)]
 
+use effects::State;
 use insn::Refusal;
-use machine::Outcome;
 use runs::Ran;
-use sheet::Evaluation;
-use unfilled::{Unfilled, unfilled_row};
+use steps::faults::SheetError;
+use unfilled::unfilled_row;
 
 // Where everything is written.
 const STDOUT: i32 = 1;
@@ -23,42 +23,32 @@ fn put_number(label: &[u8], n: u64) {
 
 // 16 hexadecimal digits.
 fn put_hex(v: u64) {
-    let mut digits = [0u8; 16];
-    for j in 0..16usize {
-        let d = ((v >> (60 - 4 * j)) % 16) as u8;
-        digits[j] = if d < 10 { 48 + d } else { 87 + d };
-    }
-    put(&digits);
+    io::print_hex(STDOUT, v, 16);
 }
 
-// A row, its high doubleword first.
-fn put_row(r: u64, low: u64, high: u64) {
-    put_number(b"row ", r);
-    put(b" ");
-    put_hex(high);
-    put_hex(low);
-    put(b"\n");
-}
-
-fn put_rows(file: [u64; 32]) {
-    for r in 0..14usize {
-        put_row(r as u64, file[2 * r], file[2 * r + 1]);
+// Rows 0 to 13, the high doubleword of each first.
+fn put_rows(file: &[u64; 32]) {
+    for (r, row) in file[..28].chunks_exact(2).enumerate() {
+        put_number(b"row ", r as u64);
+        put(b" ");
+        put_hex(row[1]);
+        put_hex(row[0]);
+        put(b"\n");
     }
 }
 
 fn put_refusal(f: Refusal) {
-    put_number(b"refused ", insn::refusal_number(f) as u64);
+    put_number(b"refused ", u64::from(u8::from(f)));
 }
 
-fn put_run(ran: Ran, file: [u64; 32]) {
-    let outcome = ran.outcome;
-    match outcome {
-        Outcome::Done => {
+fn put_run(ran: Ran, file: &[u64; 32]) {
+    match ran.outcome {
+        Ok(()) => {
             put_number(b"pairs ", ran.executed);
             put(b"\n");
             put_rows(file);
         }
-        Outcome::Refused(f) => {
+        Err(f) => {
             put_refusal(f);
             put_number(b" after pairs ", ran.executed);
             put(b"\n");
@@ -66,42 +56,31 @@ fn put_run(ran: Ran, file: [u64; 32]) {
     }
 }
 
-// The mark, where a lane was moved to an end of its range.
-fn put_mark(mark: bool) {
-    if mark {
-        put(b"saturated\n");
+// The step that a refusal is about, and the row that nobody filled, where there is one.
+fn put_step(i: u64, sheet: &[u8], filled: u16) {
+    put_number(b" at step ", i);
+    if let Some(r) = unfilled_row(sheet, filled) {
+        put_number(b": row ", u64::from(r));
+        put(b" was not filled");
     }
 }
 
-// The answer of a sheet's evaluation with a list of filled rows, and the file and the mark that it leaves.
-pub fn put_answer(answer: Evaluation, sheet: &[u8], filled: u16, file: [u64; 32], mark: bool) {
-    put_evaluation(answer, sheet, filled, file);
-    put_mark(mark);
-}
-
-// The row that nobody filled, where there is one.
-fn put_unfilled(row: Unfilled) {
-    match row {
-        Unfilled::Row(r) => {
-            put_number(b": row ", r as u64);
-            put(b" was not filled");
-        }
-        Unfilled::NoRow => {}
+fn put_error(e: SheetError, sheet: &[u8], filled: u16) {
+    put_refusal(e.cause);
+    if let Some(i) = e.step {
+        put_step(i, sheet, filled);
     }
+    put(b"\n");
 }
 
-fn put_evaluation(answer: Evaluation, sheet: &[u8], filled: u16, file: [u64; 32]) {
+// The answer of a sheet's evaluation with a list of filled rows, and the state that it leaves: the mark is yes where a lane
+// was moved to an end of its range.
+pub fn put_answer(answer: Result<Ran, SheetError>, sheet: &[u8], filled: u16, state: &State) {
     match answer {
-        Evaluation::Ran(ran) => put_run(ran, file),
-        Evaluation::Refused(f) => {
-            put_refusal(f);
-            put(b"\n");
-        }
-        Evaluation::RefusedAt(f, i) => {
-            put_refusal(f);
-            put_number(b" at step ", i);
-            put_unfilled(unfilled_row(sheet, filled));
-            put(b"\n");
-        }
+        Ok(ran) => put_run(ran, &state.file),
+        Err(e) => put_error(e, sheet, filled),
+    }
+    if state.mark {
+        put(b"saturated\n");
     }
 }

@@ -2,21 +2,19 @@
 -- Assumes nothing.
 use mathlib.Core.Path.{◌≡◌, refl, sym, ap, ◌∙◌}
 use mathlib.Core.List.{List, [], ◌∷◌}
-use Prim.Native.Nat.{ℕ, zero, suc, ◌+◌, ◌/◌, ◌%◌, ◌-◌, ◌^◌, ◌≤◌, ◌<◌, max}
+use Prim.Native.Nat.{ℕ, zero, suc, ◌+◌, ◌/◌, ◌%◌, ◌^◌, ◌≤◌, ◌<◌, max}
 use native.Mathlib.Nat.{max-zero, max-le, zero-max, suc-max-suc}
 use native.Mathlib.Omega.{arith}
 use lib.Arith.{bin_ind}
 use lib.Bits.{bit_or, or_step, or_zero_r}
-use lib.ListN.{length, take, drop}
+use lib.ListN.{length, drop, get_or, drop_of_length-le}
+use Rattle.std.proofs.lemmas.List.{drop_more}
 use Rattle.laws.specs.Search.{Found, at, none}
 use Rattle.laws.proofs.Never.{never}
 use Rattle.steps.specs.Sets.{set_of}
-use Rattle.row_list.specs.declared.RowList.{RowList}
-use Rattle.row_list.specs.declared.RowList.TheVariants.{Rows, NoList}
+use Rattle.std.specs.Prelude.{Option, Some, None}
 use Rattle.row_list.specs.Answers.{list_answer}
-use Rattle.row_list.specs.Lists.{Parsed, listed, no_list, and_rows, words_of, row_named, rows_named, as_set}
-use Rattle.row_list.specs.Own.{words_from, EndsAt}
-use Rattle.row_list.proofs.Words.{from_start, past_end}
+use Rattle.row_list.specs.Lists.{Parsed, listed, no_list, and_rows, row_named, rows_named, as_set}
 
 -- joins, however they are grouped
 max-apart : (x y z : ℕ) → max (max x y) z ≡ max x (max y z)
@@ -39,11 +37,11 @@ or_apart =
     ∙ rw ((parts a b).0, (parts a b).1, ih (b / 2) (c / 2), max-apart (a % 2) (b % 2) (c % 2))
     (sym (or_step a (bit_or b c) ∙ rw ((parts b c).0, (parts b c).1))))
 
-abbrev joined : ℕ → Parsed ℕ → Parsed ℕ
+abbrev pub joined : ℕ → Parsed ℕ → Parsed ℕ
 joined rows (listed more) = listed (bit_or rows more)
 joined rows no_list = no_list
 
-joined-none : (x : Parsed ℕ) → joined 0 x ≡ x
+pub joined-none : (x : Parsed ℕ) → joined 0 x ≡ x
 joined-none (listed rows) = refl
 joined-none no_list = refl
 
@@ -72,21 +70,18 @@ module _ (rows : ℕ) (word : List ℕ) (words : List (List ℕ)) where
       go (at r) l e = never (cc)
       go none l e = refl
 
--- a set, with the rows of the words from a place on
-abbrev pub with_rest : List ℕ → ℕ → ℕ → Parsed ℕ
-with_rest text place rows = joined rows (as_set (rows_named (words_from text place)))
+-- the words from a place on, where the first names a row, and where it names none
+module _ (words : List (List ℕ)) (n rows : ℕ) (word : List ℕ) (turn : (n < length words) × (word ≡ get_or words n word)) where
+  first : drop n words ≡ word ∷ drop (n + 1) words
+  first = drop_more words n word turn.0 ∙ ap (λ (w : List ℕ). w ∷ drop (n + 1) words) (sym turn.1)
 
-pub rest_all : (text : List ℕ) → with_rest text 0 0 ≡ as_set (rows_named (words_of text))
-rest_all text = joined-none (as_set (rows_named (words_from text 0))) ∙ ap (λ (words : List (List ℕ)). as_set (rows_named words)) (from_start text)
+  pub with-row : (x : Option ℕ) (row : ℕ) → x ≡ Some row → list_answer x ≡ as_set (rows_named (word ∷ []))
+      → joined (bit_or rows row) (as_set (rows_named (drop (n + 1) words))) ≡ joined rows (as_set (rows_named (drop n words)))
+  with-row x row is names = rw first (sym (joined-row rows word (drop (n + 1) words) row (sym (ap list_answer is) ∙ names)))
 
-pub rest-none : (text : List ℕ) (place rows : ℕ) → length text < place → listed rows ≡ with_rest text place rows
-rest-none text place rows h = rw (past_end text place h) (sym (joined_end rows))
+  pub with-not : (x : Option ℕ) → x ≡ None → list_answer x ≡ as_set (rows_named (word ∷ [])) → no_list ≡ joined rows (as_set (rows_named (drop n words)))
+  with-not x is names = rw first (sym (joined-not rows word (drop (n + 1) words) (sym (ap list_answer is) ∙ names)))
 
--- a word that names a row, and one that names none
-module _ (text : List ℕ) (place end rows : ℕ) (e : EndsAt text place end) where
-  pub rest-row : (x : RowList) (row : ℕ) → x ≡ Rows row → list_answer x ≡ as_set (rows_named (take (end - place) (drop place text) ∷ []))
-      → with_rest text (end + 1) (bit_or rows row) ≡ with_rest text place rows
-  rest-row x row is names = rw e.cut (sym (joined-row rows (take (end - place) (drop place text)) (words_from text (end + 1)) row (sym (ap list_answer is) ∙ names)))
-
-  pub rest-not : (x : RowList) → x ≡ NoList → list_answer x ≡ as_set (rows_named (take (end - place) (drop place text) ∷ [])) → no_list ≡ with_rest text place rows
-  rest-not x is names = rw e.cut (sym (joined-not rows (take (end - place) (drop place text)) (words_from text (end + 1)) (sym (ap list_answer is) ∙ names)))
+-- past the last word
+pub with-end : (words : List (List ℕ)) (n rows : ℕ) → n ≡ length words → listed rows ≡ joined rows (as_set (rows_named (drop n words)))
+with-end words n rows e = rw (drop_of_length-le words {i = n} (omega arith)) (sym (joined_end rows))

@@ -1,6 +1,3 @@
-pub mod Texts
-pub mod Words
 pub mod Named
 pub mod Joins
-pub mod Lists
 pub mod Promises

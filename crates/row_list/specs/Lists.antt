@@ -1,32 +1,21 @@
 -- A list of rows as a text: their numbers in decimal with a comma between each two, or `none`, or `all`.
 -- Assumes nothing.
-use Rattle.std.specs.Prelude.{Bool, true, false, List, [], ◌∷◌, ℕ, eqb}
-use Rattle.laws.specs.Choice.{choose, both}
+use Rattle.std.specs.Prelude.{List, [], ◌∷◌, ℕ, eqb}
+use Rattle.std.specs.List.{slice_split}
+use Rattle.std.specs.Str.{bytes_eq}
+use Rattle.laws.specs.Choice.{choose}
 use Rattle.laws.specs.Search.{Found, at, none, first_below}
 use Rattle.names.specs.Names.{codes}
 use Rattle.steps.specs.Sets.{set_of}
 use Rattle.text.specs.Text.{decimal}
 
--- whether two texts are the same
-unfoldable pub same_text : List ℕ → List ℕ → Bool
-same_text [] [] = true
-same_text [] (y ∷ b) = false
-same_text (x ∷ a) [] = false
-same_text (x ∷ a) (y ∷ b) = let rest = same_text a b in both (eqb x y) rest
-
--- a byte in front of the first word, which every text has
-abbrev pub in_front : ℕ → List (List ℕ) → List (List ℕ)
-in_front b [] = []
-in_front b (word ∷ words) = (b ∷ word) ∷ words
-
 -- a text cut at its commas (44): one word more than it has commas
-unfoldable pub words_of : List ℕ → List (List ℕ)
-words_of [] = [] ∷ []
-words_of (b ∷ text) = let rest = words_of text in choose (eqb b 44) ([] ∷ rest) (in_front b rest)
+abbrev pub words_of : List ℕ → List (List ℕ)
+words_of text = slice_split (λ b. eqb b 44) text
 
 -- the row that a word names: the one of 0 to 13 whose decimal text is the word
 unfoldable pub row_named : List ℕ → Found
-row_named word = first_below 14 (λ r. same_text word (decimal r))
+row_named word = first_below 14 (λ r. bytes_eq word (decimal r))
 
 -- what a text lists; or it is no list
 pub data Parsed (A : Type 0) : Type 0 where
@@ -50,7 +39,7 @@ all_rows = 0 ∷ 1 ∷ 2 ∷ 3 ∷ 4 ∷ 5 ∷ 6 ∷ 7 ∷ 8 ∷ 9 ∷ 10 ∷ 11
 
 -- the rows of a list, in its order
 unfoldable pub rows_listed : List ℕ → Parsed (List ℕ)
-rows_listed text = choose (same_text text (codes "none")) (listed []) (choose (same_text text (codes "all")) (listed all_rows) (rows_named (words_of text)))
+rows_listed text = choose (bytes_eq text (codes "none")) (listed []) (choose (bytes_eq text (codes "all")) (listed all_rows) (rows_named (words_of text)))
 
 -- the rows as a set
 abbrev pub as_set : Parsed (List ℕ) → Parsed ℕ

@@ -1,14 +1,13 @@
 -- Promises beyond the contract; proofs/Promises.antt proves each under its name.
 -- Assumes nothing.
-use Rattle.std.specs.Prelude.{◌≡◌}
+use Rattle.std.specs.Prelude.{◌≡◌, ℕ, Option}
 use Rattle.names.specs.Names.{codes}
-use Rattle.row_list.specs.declared.RowList.{RowList}
 use Rattle.row_list.specs.Answers.{list_answer}
 use Rattle.row_list.specs.Lists.{listed, no_list, list_of}
 
 -- an answer says which case it is
 abbrev pub ListsApart : Type 0
-ListsApart = (x y : RowList) → list_answer x ≡ list_answer y → x ≡ y
+ListsApart = (x y : Option ℕ) → list_answer x ≡ list_answer y → x ≡ y
 
 -- worked texts
 abbrev pub WorkedLists : Type 0

@@ -2,29 +2,22 @@
 -- Assumes nothing.
 use mathlib.Core.Path.{◌≡◌, refl, sym, ◌∙◌, ap}
 use mathlib.Core.Bool.{true}
-use mathlib.Core.List.{List, [], ◌∷◌}
-use Prim.Native.Nat.{ℕ, zero, suc, ◌+◌, ◌-◌, ◌*◌, ◌/◌, ◌%◌, ◌≤◌, ◌<◌}
-use native.Mathlib.Nat.{not-suc-le-zero, zero-add, suc-add}
+use mathlib.Core.List.{List, [], ◌∷◌, ◌++◌}
+use Prim.Native.Nat.{ℕ, zero, suc, ◌+◌, ◌-◌, ◌*◌, ◌≤◌, ◌<◌}
+use native.Mathlib.Nat.{not-suc-le-zero, zero-add, suc-add, add-zero}
 use native.Mathlib.Omega.{arith}
-use lib.ListN.{length, get_or, drop, drop_of_length-le}
-use lib.Seq.{drop-cons}
+use lib.ListN.{length, get_or, drop}
 use borrow.Author.Tests.{eqb-true}
 use Rattle.laws.specs.Answer.{Answer, accepted, refused, and_then}
 use Rattle.laws.proofs.Never.{never}
-use Rattle.runs.specs.Run.{done, stopped, may_go_on, RunOn, at_once, after, onward, run_by, steps_by}
+use Rattle.runs.specs.Run.{Ending, done, stopped, may_go_on, RunOn, at_once, after, onward, run_by, steps_by}
 
--- the pair at place i of the code, and the end of the code
-module _ (code : List ℕ) (i : ℕ) where
-  pub pair-at : i < length code / 2 → drop (2 * i) code ≡ get_or code (2 * i) 0 ∷ get_or code (2 * i + 1) 0 ∷ drop (2 * (i + 1)) code
-  pair-at h =
-      let e : suc (2 * i) ≡ 2 * i + 1 = omega arith in
-      let f : suc (2 * i + 1) ≡ 2 * (i + 1) = omega arith in
-      drop-cons code (2 * i) 0 (omega arith)
-      ∙ ap (λ (l : List ℕ). get_or code (2 * i) 0 ∷ l) (ap (λ (k : ℕ). drop k code) e ∙ drop-cons code (2 * i + 1) 0 (omega arith)
-      ∙ ap (λ (k : ℕ). get_or code (2 * i + 1) 0 ∷ drop k code) f)
-
-  pub at-end : length code % 2 ≡ 0 → length code / 2 ≤ i → drop (2 * i) code ≡ []
-  at-end e h = drop_of_length-le code {i = 2 * i} (omega arith)
+-- the two halfwords of a pair
+both : (pair : List ℕ) → length pair ≡ 2 → pair ≡ get_or pair 0 0 ∷ get_or pair 1 0 ∷ []
+both [] h = absurd (let z : ⊥ = omega arith in z)
+both (hw1 ∷ []) h = absurd (let z : ⊥ = omega arith in z)
+both (hw1 ∷ hw2 ∷ []) h = refl
+both (hw1 ∷ hw2 ∷ x ∷ more) h = absurd (let z : ⊥ = omega arith in z)
 
 one-add : (n : ℕ) → 1 + n ≡ suc n
 one-add n = omega arith
@@ -37,45 +30,47 @@ module _ {S : Type 0} where
   pub after-after : (j k : ℕ) (r : RunOn S) → after j (after k r) ≡ after (j + k) r
   after-after j k r = let e : j + (k + r.executed) ≡ j + k + r.executed = omega arith in rw e
 
-  -- a run that ends where the loop does, with the pairs that it has executed
-  pub halts : {x whole r q : RunOn S} (k n : ℕ) → x ≡ after k r → k ≡ n → q ≡ r → after n q ≡ whole → x ≡ whole
-  halts k n e f g h = e ∙ (λ i. after (f i) (sym g i)) ∙ h
+  -- a run that ends where the loop does, after the pairs executed
+  pub halts : {q whole : RunOn S} (n : ℕ) (e : Ending) (s : S) → q ≡ at_once e s → after n q ≡ whole → (record { ending = e; executed = n; state = s }) ≡ whole
+  halts n e s f g = ap (λ (k : ℕ). record { ending = e; executed = k; state = s }) (sym (add-zero n)) ∙ ap (after n) (sym f) ∙ g
 
 module _ {S : Type 0} (step : ℕ → ℕ → S → Answer S) where
-  -- a turn of the loop: no pair is left, the budget is spent, the pair is refused, or it is executed
-  module _ (code : List ℕ) (i : ℕ) (state : S) (left : ℕ) where
-    pub ended : length code % 2 ≡ 0 → length code / 2 ≤ i → run_by step (drop (2 * i) code) left state ≡ at_once done state
-    unfolding run_by
-    ended e h = rw (at-end code i e h)
+  -- no pair is left
+  pub ended : (code : List ℕ) (left : ℕ) (state : S) → length code < 2 → run_by step code left state ≡ at_once done state
+  unfolding run_by
+  ended [] left state h = refl
+  ended (hw1 ∷ []) left state h = refl
+  ended (hw1 ∷ hw2 ∷ code) left state h = absurd (let z : ⊥ = omega arith in z)
 
-    pub spent : i < length code / 2 → left ≡ 0 → run_by step (drop (2 * i) code) left state ≡ at_once (stopped 15) state
-    unfolding run_by
-    spent h e = rw (pair-at code i h, e)
+  -- a turn of the loop: the budget is spent, the pair is refused, or it is executed
+  module _ (code pair rest : List ℕ) (state : S) (left : ℕ) (front : code ≡ pair ++ rest) (two : length pair ≡ 2) where
+    in-front : code ≡ get_or pair 0 0 ∷ get_or pair 1 0 ∷ rest
+    in-front = front ∙ ap (λ (p : List ℕ). p ++ rest) (both pair two)
 
-    next-pair : i < length code / 2 → (left ≡ 0 → ⊥) → run_by step (drop (2 * i) code) left state
-        ≡ onward (step (get_or code (2 * i) 0) (get_or code (2 * i + 1) 0) state) state (λ next. run_by step (drop (2 * (i + 1)) code) (left - 1) next)
+    pub spent : left ≡ 0 → run_by step code left state ≡ at_once (stopped 15) state
     unfolding run_by
-    next-pair h n =
+    spent e = rw (in-front, e)
+
+    next-pair : (left ≡ 0 → ⊥) → run_by step code left state ≡ onward (step (get_or pair 0 0) (get_or pair 1 0) state) state (λ next. run_by step rest (left - 1) next)
+    unfolding run_by
+    next-pair n =
         let b : left ≡ suc (left - 1) = omega arith in
-        ap (λ (l : List ℕ). run_by step l left state) (pair-at code i h)
-        ∙ ap (λ (k : ℕ). run_by step (get_or code (2 * i) 0 ∷ get_or code (2 * i + 1) 0 ∷ drop (2 * (i + 1)) code) k state) b
+        ap (λ (l : List ℕ). run_by step l left state) in-front ∙ ap (λ (k : ℕ). run_by step (get_or pair 0 0 ∷ get_or pair 1 0 ∷ rest) k state) b
 
-    pub stops : (n : ℕ) → i < length code / 2 → (left ≡ 0 → ⊥) → step (get_or code (2 * i) 0) (get_or code (2 * i + 1) 0) state ≡ refused n
-        → run_by step (drop (2 * i) code) left state ≡ at_once (stopped n) state
-    stops n h z e = next-pair h z ∙ rw e
+    pub stops : (n : ℕ) → (left ≡ 0 → ⊥) → step (get_or pair 0 0) (get_or pair 1 0) state ≡ refused n → run_by step code left state ≡ at_once (stopped n) state
+    stops n z e = next-pair z ∙ rw e
 
-    pub executes : (next : S) → i < length code / 2 → (left ≡ 0 → ⊥) → step (get_or code (2 * i) 0) (get_or code (2 * i + 1) 0) state ≡ accepted next
-        → run_by step (drop (2 * i) code) left state ≡ after 1 (run_by step (drop (2 * (i + 1)) code) (left - 1) next)
-    executes next h z e = next-pair h z ∙ rw e
+    pub executes : (next : S) → (left ≡ 0 → ⊥) → step (get_or pair 0 0) (get_or pair 1 0) state ≡ accepted next
+        → run_by step code left state ≡ after 1 (run_by step rest (left - 1) next)
+    executes next z e = next-pair z ∙ rw e
 
-    -- the same with the pairs counted by what is left of the budget
-    pub turned : (budget : ℕ) (next : S) → i < length code / 2 → (left ≡ 0 → ⊥) → left ≤ budget
-        → step (get_or code (2 * i) 0) (get_or code (2 * i + 1) 0) state ≡ accepted next
-        → after (budget - (left - 1)) (run_by step (drop (2 * (i + 1)) code) (left - 1) next) ≡ after (budget - left) (run_by step (drop (2 * i) code) left state)
-    turned budget next h z l e =
-        let b : budget - (left - 1) ≡ budget - left + 1 = omega arith in
-        let r = run_by step (drop (2 * (i + 1)) code) (left - 1) next in
-        ap (λ (k : ℕ). after k r) b ∙ sym (after-after (budget - left) 1 r) ∙ ap (after (budget - left)) (sym (executes next h z e))
+    -- after the pairs executed before
+    pub turned : (budget rest-left : ℕ) (next : S) → (left ≡ 0 → ⊥) → left ≤ budget → rest-left ≡ left - 1
+        → step (get_or pair 0 0) (get_or pair 1 0) state ≡ accepted next
+        → after (budget - rest-left) (run_by step rest rest-left next) ≡ after (budget - left) (run_by step code left state)
+    turned budget rest-left next z w b e =
+        let k : budget - rest-left ≡ budget - left + 1 = omega arith in
+        rw (k, b) (sym (after-after (budget - left) 1 (run_by step rest (left - 1) next)) ∙ ap (after (budget - left)) (sym (executes next z e)))
 
   -- the pairs executed are the steps between the two states
   abbrev pub Counted : List ℕ → S → RunOn S → Type 0

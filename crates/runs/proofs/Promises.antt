@@ -5,8 +5,8 @@ use Prim.Native.Nat.{◌*◌}
 use lib.ListN.{drop}
 use Rattle.laws.proofs.Never.{never}
 use Rattle.insn.proofs.Promises.{numbered_apart}
-use Rattle.machine.specs.declared.Outcome.{Outcome}
-use Rattle.machine.specs.declared.Outcome.TheVariants.{Done, Refused as Stopped}
+use Rattle.std.specs.Prelude.{⊤, Result, Ok, Err}
+use Rattle.insn.specs.declared.Refusal.{Refusal}
 use Rattle.runs.specs.Answers.{ending_of}
 use Rattle.runs.specs.Run.{Run, run_of}
 use Rattle.runs.specs.Promises.{RunsApart, RunKept, RunMarked, SameControl, GoesOn}
@@ -15,11 +15,11 @@ use Rattle.runs.proofs.Marks.{stays, turned, turns}
 use Rattle.runs.proofs.Runs.{run-kept, run-goes-on}
 
 -- an ending says which outcome it is
-endings-apart : (x y : Outcome) → ending_of x ≡ ending_of y → x ≡ y
-endings-apart Done Done e = refl
-endings-apart Done (Stopped y) e = never (cc)
-endings-apart (Stopped x) Done e = never (cc)
-endings-apart (Stopped x) (Stopped y) e = ap Stopped (numbered_apart x y (cc))
+endings-apart : (x y : Result ⊤ Refusal) → ending_of x ≡ ending_of y → x ≡ y
+endings-apart (Ok a) (Ok b) e = refl
+endings-apart (Ok a) (Err y) e = never (cc)
+endings-apart (Err x) (Ok a) e = never (cc)
+endings-apart (Err x) (Err y) e = ap Err (numbered_apart x y (cc))
 
 pub runs_apart : RunsApart
 runs_apart x y s t e =

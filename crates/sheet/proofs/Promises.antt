@@ -7,15 +7,14 @@ use native.Mathlib.Omega.{arith}
 use lib.ListN.{length}
 use lib.Seq.{length-take-le}
 use Rattle.laws.specs.AnswerAt.{AnswerAt}
-use Rattle.laws.proofs.Never.{never}
 use Rattle.effects.specs.File.{File}
-use Rattle.insn.proofs.Promises.{numbered_apart}
 use Rattle.runs.proofs.Promises.{runs_apart}
-use Rattle.sheet.specs.declared.Evaluation.TheVariants.{Ran, Refused, RefusedAt}
 use Rattle.sheet.specs.Evaluation.{evaluated_by}
 use Rattle.sheet.specs.Promises.{SheetsHold, EvaluatesAsBefore, LargerEvaluates, EvaluatesMarksIgnored, FilledAloneRuns, EvaluationsApart}
 use Rattle.steps.specs.Meaning.{paired, rows_of, row_at}
 use Rattle.steps.specs.Steps.{steps_of}
+use Rattle.std.specs.Prelude.{Ok, Err}
+use Rattle.steps.proofs.Answers.{refusals_apart, not_accepted}
 use Rattle.steps.proofs.Promises.{filled_alone}
 use Rattle.translator.proofs.Promises.{as_before, larger_translates, marks_ignored}
 use Rattle.sheet.proofs.Rows.{paired-length}
@@ -51,12 +50,7 @@ filled_alone_runs t bytes out s u budget n a enough g h same r small filled =
     ∙ ap (λ (l : List ℕ). row_at l r) (sym (rows t bytes out u budget n a h.size enough h.small))
 
 pub evaluations_apart : EvaluationsApart
-evaluations_apart (Ran x) (Ran y) s t e = ap Ran (runs_apart x y s t (cc)).0
-evaluations_apart (Ran x) (Refused v) s t e = never (cc)
-evaluations_apart (Ran x) (RefusedAt v j) s t e = never (cc)
-evaluations_apart (Refused u) (Ran y) s t e = never (cc)
-evaluations_apart (Refused u) (Refused v) s t e = ap Refused (numbered_apart u v (cc))
-evaluations_apart (Refused u) (RefusedAt v j) s t e = never (cc)
-evaluations_apart (RefusedAt u i) (Ran y) s t e = never (cc)
-evaluations_apart (RefusedAt u i) (Refused v) s t e = never (cc)
-evaluations_apart (RefusedAt u i) (RefusedAt v j) s t e = let k = numbered_apart u v (cc) in let l : i ≡ j = cc in λ x. RefusedAt (k x) (l x)
+evaluations_apart (Ok x) (Ok y) s t e = ap Ok (runs_apart x y s t (cc)).0
+evaluations_apart (Ok x) (Err y) s t e = not_accepted _ y e
+evaluations_apart (Err x) (Ok y) s t e = not_accepted _ x (sym e)
+evaluations_apart (Err x) (Err y) s t e = ap Err (refusals_apart x y e)

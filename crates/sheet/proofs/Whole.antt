@@ -9,6 +9,9 @@ use lib.ListN.{length, get_or, take}
 use Rattle.laws.specs.Answer as stepping
 use Rattle.laws.specs.AnswerAt.{AnswerAt, accepted, refused, refused_at}
 use Rattle.laws.proofs.Never.{never}
+use Rattle.std.specs.Prelude.{Option, Some, None}
+use Rattle.insn.specs.declared.Refusal.{Refusal}
+use Rattle.insn.specs.Refusals.{number}
 use Rattle.machine.specs.State.{State, state}
 use Rattle.runs.specs.Run.{Run, done, run_pairs, run_of, machine_steps}
 use Rattle.runs.proofs.Promises.{run_kept}
@@ -16,6 +19,8 @@ use Rattle.runs.proofs.Runs.{all-run, each-run, runs-from-start}
 use Rattle.sheet.specs.Demand3.{done_after, Demand3}
 use Rattle.sheet.specs.Evaluation.{evaluated_by, evaluation_of, state_left}
 use Rattle.steps.specs.declared.Terms.{Terms}
+use Rattle.steps.specs.declared.faults.SheetError.{SheetError}
+use Rattle.steps.specs.Answers.{refused_with, refused_for}
 use Rattle.steps.specs.Meaning.{rows_of, meaning}
 use Rattle.recipes.specs.Pairs.{halfwords_of}
 use Rattle.steps.specs.Steps.{steps_of}
@@ -131,13 +136,13 @@ module _ (t : Terms) (bytes out : List ℕ) (s : State) (budget : ℕ) (small : 
       evaluates (accepted r)
       (ap accepted (e ∙ ap (λ (o : List ℕ). run_of (take (2 * n) o) 0 s budget) w) ∙ ap (λ (x : AnswerAt ℕ). evaluated_by x (written_of t bytes out) s budget) (sym f))
 
-  pub after-refusal : (r : ℕ) → translation_of t bytes (length out) ≡ refused r → Evaluates (refused r) s
+  after-refused : (f : Refusal) (i : Option ℕ) → refused_with f i ≡ translation_of t bytes (length out) → Evaluates (refused_with f i) s
   unfolding evaluated_by
-  after-refusal r f = evaluates (refused r) (rw f)
+  after-refused f None e = evaluates (refused (number f)) (ap (λ (x : AnswerAt ℕ). evaluated_by x (written_of t bytes out) s budget) e)
+  after-refused f (Some i) e = evaluates (refused_at (number f) i) (ap (λ (x : AnswerAt ℕ). evaluated_by x (written_of t bytes out) s budget) e)
 
-  pub after-refusal-at : (r i : ℕ) → translation_of t bytes (length out) ≡ refused_at r i → Evaluates (refused_at r i) s
-  unfolding evaluated_by
-  after-refusal-at r i f = evaluates (refused_at r i) (rw f)
+  pub after-refusal : (e : SheetError) → refused_for e ≡ translation_of t bytes (length out) → Evaluates (refused_for e) s
+  after-refusal e = after-refused e.cause e.step
 
 -- room for the pairs that were counted
 pub prefix : (t : Terms) (bytes out out' : List ℕ) (n : ℕ) → translation_of t bytes (length out) ≡ accepted n → length out' ≡ length out → 2 * n ≤ length out'

@@ -1,6 +1,6 @@
 -- Promises beyond the contract; proofs/Promises.antt proves each under its name.
 -- Assumes nothing.
-use Rattle.std.specs.Prelude.{true, List, ◌≡◌, ℕ, ◌%◌, ◌^◌, ◌≤◌, ◌<◌, length, get_or}
+use Rattle.std.specs.Prelude.{true, List, ◌≡◌, ℕ, ◌%◌, ◌^◌, ◌≤◌, ◌<◌, length, get_or, Result}
 use Rattle.laws.specs.AnswerAt.{accepted}
 use Rattle.laws.specs.Choice.{either}
 use Rattle.effects.specs.File.{Good}
@@ -13,7 +13,8 @@ use Rattle.steps.specs.Promises.{first_broken, HasAll, Within}
 use Rattle.steps.specs.Sets.{in_set}
 use Rattle.steps.specs.Steps.{steps_of}
 use Rattle.translator.specs.Translation.{records_of, translation_by, translation_of, written_by, written_of, Translates}
-use Rattle.sheet.specs.declared.Evaluation.{Evaluation}
+use Rattle.runs.specs.declared.Ran.{Ran}
+use Rattle.steps.specs.declared.faults.SheetError.{SheetError}
 use Rattle.sheet.specs.Answers.{evaluation_answer}
 use Rattle.sheet.specs.Demand3.{Demand3}
 use Rattle.sheet.specs.Evaluation.{evaluated_by, evaluation_of, state_left}
@@ -59,4 +60,4 @@ FilledAloneRuns =
 
 -- an answer says which case it is
 abbrev pub EvaluationsApart : Type 0
-EvaluationsApart = (x y : Evaluation) (s t : State) → evaluation_answer x s ≡ evaluation_answer y t → x ≡ y
+EvaluationsApart = (x y : Result Ran SheetError) (s t : State) → evaluation_answer x s ≡ evaluation_answer y t → x ≡ y

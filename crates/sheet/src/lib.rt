@@ -9,17 +9,9 @@ ghost use Rattle.sheet.specs.Answers.{evaluation_answer};
 ghost use Rattle.sheet.specs.Demand3.{Demand3};
 ghost use Rattle.sheet.specs.Evaluation.{evaluation_of, state_left};
 
-use insn::Refusal;
 use runs::{Ran, run};
-use translator::{Translation, translate};
-
-// What an evaluation answers: the run's answer, or the translation's refusal.
-#[derive(Clone, Copy)]
-pub enum Evaluation {
-    Ran(Ran),
-    Refused(Refusal),
-    RefusedAt(Refusal, u64),
-}
+use steps::faults::SheetError;
+use translator::translate;
 
 // Translates a sheet into the output, with the list of the rows that were filled beforehand, and runs the pairs that were
 // written on the file and the mark.
@@ -30,19 +22,12 @@ pub fn evaluate(
     file: &mut [u64],
     budget: u64,
     mark: &mut bool,
-) -> Evaluation
+) -> Result<Ran, SheetError>
     ensures answer { evaluation_answer result (state file.new mark.new) ≡ evaluation_of (terms filled) sheet.now out.old (state file.old mark.old) budget }
     ensures written { out.new ≡ written_of (terms filled) sheet.now out.old }
     ensures left { state file.new mark.new ≡ state_left (evaluation_of (terms filled) sheet.now out.old (state file.old mark.old) budget) (state file.old mark.old) }
     ensures demand3 { Demand3 (terms filled) sheet.now out.old (state file.old mark.old) budget out.new (state file.new mark.new) (evaluation_answer result (state file.new mark.new)) }
 {
-    let t = translate(sheet, filled, out);
-    match t {
-        Translation::Pairs(n) => {
-            let ran = run(&out[..2 * n as usize], 0, file, budget, mark);
-            Evaluation::Ran(ran)
-        }
-        Translation::Refused(r) => Evaluation::Refused(r),
-        Translation::RefusedAt(r, i) => Evaluation::RefusedAt(r, i),
-    }
+    let n = translate(sheet, filled, out)?;
+    Ok(run(&out[..2 * n as usize], 0, file, budget, mark))
 }

@@ -2,81 +2,21 @@
 #![tactic(auto)]
 
 use insn::Refusal;
-use machine::Outcome;
-use replay::{digit, field, file_at, same_file};
+use replay::{digit, field, file_at, half_at, number_of};
 use runs::{Ran, run};
-use translator::Translation;
-
-// What a case answers: the refusal's number or 0, the step's index where it has one, and the pairs executed.
-#[derive(Clone, Copy)]
-struct Answer {
-    number: u64,
-    index: u64,
-    executed: u64,
-}
+use steps::faults::SheetError;
 
 // The bytes of the second line.
 pub fn bytes_of(text: &[u8; 12400]) -> [u8; 6200] {
-    let mut bytes = [0u8; 6200];
-    let mut i: usize = 0;
-    while i < 6200 {
-        bytes[i] = (digit(text[2 * i]) * 16 + digit(text[2 * i + 1])) as u8;
-        i += 1;
-    }
-    bytes
+    std::array::from_fn(|i| (digit(text[2 * i]) * 16 + digit(text[2 * i + 1])) as u8)
 }
 
 // The sum by which a whole output is compared, a halfword at a time.
-fn joined(sum: u64, half: u16) -> u64 {
-    sum % 0x1_0000_0000_0000 * 257 + half as u64
-}
-
-fn check(out: &[u16; 10304]) -> u64 {
-    let mut sum: u64 = 0;
-    let mut i: usize = 0;
-    while i < 10304 {
-        sum = joined(sum, out[i]);
-        i += 1;
-    }
-    sum
-}
-
-fn ended(ran: Ran) -> Answer {
-    let outcome = ran.outcome;
-    let executed = ran.executed;
-    let number = match outcome {
-        Outcome::Done => 0,
-        Outcome::Refused(f) => insn::refusal_number(f) as u64,
-    };
-    Answer {
-        number,
-        index: 0,
-        executed,
-    }
-}
-
-fn refused(f: Refusal, index: u64) -> Answer {
-    Answer {
-        number: insn::refusal_number(f) as u64,
-        index,
-        executed: 0,
-    }
-}
-
-// The first n pairs of the output, run from a start on.
-fn executed(
-    out: &[u16],
-    n: u64,
-    start: u64,
-    file: &mut [u64],
-    budget: u64,
-    mark: &mut bool,
-) -> Answer {
-    let end = 2 * (n % 10000) as usize;
-    if out.len() < end {
-        return refused(Refusal::ShortOutput, 0);
-    }
-    ended(run(&out[..end], start, file, budget, mark))
+fn check(out: &[u16]) -> u64 {
+    out.iter().fold(
+        0,
+        |sum, half| sum % 0x1_0000_0000_0000 * 257 + u64::from(*half),
+    )
 }
 
 // A sheet translated with a list of filled rows, and its pairs run from a start on.
@@ -88,25 +28,31 @@ fn called(
     file: &mut [u64],
     budget: u64,
     mark: &mut bool,
-) -> Answer {
-    let t = translator::translate(sheet, filled, out);
-    match t {
-        Translation::Pairs(n) => executed(out, n, start, file, budget, mark),
-        Translation::Refused(f) => refused(f, 0),
-        Translation::RefusedAt(f, i) => refused(f, i),
-    }
+) -> Result<Ran, SheetError> {
+    let n = translator::translate(sheet, filled, out)?;
+    let end = 2 * (n % 10000) as usize;
+    let pairs = out.get(..end).ok_or(SheetError {
+        cause: Refusal::ShortOutput,
+        step: None,
+    })?;
+    Ok(run(pairs, start, file, budget, mark))
 }
 
-// Whether an answer is the line's.
-fn said(line: &[u8; 1110], a: Answer) -> bool {
-    a.number == field(line, 54, 2)
-        && a.index == field(line, 57, 4)
-        && a.executed == field(line, 62, 4)
+// Whether an answer is the line's: the refusal's number, the step's index and the pairs executed, each 0 where there is
+// none.
+fn said(line: &[u8; 1110], answer: Result<Ran, SheetError>) -> bool {
+    let (number, index, executed) = match answer {
+        Ok(ran) => (number_of(ran.outcome), 0, ran.executed),
+        Err(e) => (u8::from(e.cause), e.step.unwrap_or(0), 0),
+    };
+    u64::from(number) == field(line, 54, 2)
+        && index == field(line, 57, 4)
+        && executed == field(line, 62, 4)
 }
 
 // Whether the output and the file that are left are the line's.
-fn left(line: &[u8; 1110], out: &[u16; 10304], file: [u64; 32]) -> bool {
-    check(out) == field(line, 67, 16) && same_file(file, file_at(line, 597))
+fn left(line: &[u8; 1110], out: &[u16], file: [u64; 32]) -> bool {
+    check(out) == field(line, 67, 16) && file == file_at(line, 597)
 }
 
 // Whether a case's sheet is answered as its line says, leaves the output and the file that it says, and the mark as it
@@ -114,14 +60,14 @@ fn left(line: &[u8; 1110], out: &[u16; 10304], file: [u64; 32]) -> bool {
 pub fn agrees(line: &[u8; 1110], sheet: &[u8]) -> bool {
     let mut out = [0x5555u16; 10304];
     let mut file = file_at(line, 84);
-    let filled = (field(line, 10, 4) % 65536) as u16;
+    let filled = half_at(line, 10);
     let start = field(line, 15, 16);
     let budget = field(line, 37, 16);
     let room = (field(line, 5, 4) % 10304) as usize;
     let words = (field(line, 32, 4) % 33) as usize;
     let before = room % 2 == 1;
     let mut mark = before;
-    let a = called(
+    let answer = called(
         sheet,
         filled,
         &mut out[..room],
@@ -130,5 +76,5 @@ pub fn agrees(line: &[u8; 1110], sheet: &[u8]) -> bool {
         budget,
         &mut mark,
     );
-    said(line, a) && left(line, &out, file) && mark == before
+    said(line, answer) && left(line, &out, file) && mark == before
 }

@@ -122,11 +122,3 @@ module _ (t : Terms) (s : List ℕ) (n i set : ℕ) (known : Known t (before s i
 -- a fault is not none
 pub not_sound : {P : Type 0} (n i : ℕ) → fault n i ≡ sound → P
 not_sound n i e = never (cc)
-
--- a step with no fault keeps the rules
-pub sound-keeps : (p : ℕ → Bool) (i : ℕ) (s : Step) → step_fault p i s ≡ sound → keeps s ≡ true
-sound-keeps p i s h = go (keeps s) refl
-  where
-    go : (k : Bool) → keeps s ≡ k → keeps s ≡ true
-    go true e = e
-    go false e = not_sound 13 i (sym (breaks-rule p i s e) ∙ h)

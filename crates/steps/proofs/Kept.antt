@@ -81,6 +81,9 @@ module _ (s : Step) (e : keeps s ≡ true) where
       let b = both_true (keeps_rows (uses_of s.kind) s) (keeps_numbers (uses_of s.kind) s) (both_true (leb s.kind 14) _ e).1 in
       kept_by (uses_of s.kind) s b.0 b.1
 
+  pub target-small : s.target < 14
+  target-small = kept_of.target
+
   -- its rows are, also those that it does not use
   pub a_small : s.a < 14
   a_small = omega (arith, kept_of.a, a-rows s.kind kind-small)
@@ -90,6 +93,8 @@ module _ (s : Step) (e : keeps s ≡ true) where
 
   pub c-small : s.c < 14
   c-small = omega (arith, kept_of.c, c-rows s.kind kind-small)
+
+pub ruleset bytes_small = (kind-small, target-small, a_small, b-small, c-small)
 
 -- where its kind is known
 pub kept_at : (s : Step) (k : ℕ) → keeps s ≡ true → s.kind ≡ k → Kept (uses_of k) s
@@ -101,5 +106,5 @@ unfolding keeps
 kind-past s h = rw (lt-leb s.kind 14 h)
 
 -- what the rows' test alone says
-pub rows_of : (s : Step) → s.kind < 15 → keeps_rows (uses_of s.kind) s ≡ true → (s.kind < 15) × (s.width < 4)
-rows_of s h e = (h, omega (arith, (rows-kept (uses_of s.kind) s e).width, widths s.kind h))
+pub width-small : (s : Step) → s.kind < 15 → keeps_rows (uses_of s.kind) s ≡ true → s.width < 4
+width-small s h e = omega (arith, (rows-kept (uses_of s.kind) s e).width, widths s.kind h)

@@ -1,4 +1,5 @@
 pub mod Alike
+pub mod Answers
 pub mod Columns
 pub mod Drawn
 pub mod Each

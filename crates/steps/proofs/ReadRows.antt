@@ -4,19 +4,18 @@ use mathlib.Core.Path.{◌≡◌, refl, sym, ap}
 use mathlib.Core.Bool.{Bool, ◌&&◌, ◌||◌, and-true}
 use Prim.Native.Nat.{ℕ, ◌<◌}
 use lib.Dec.{ltb}
-use lib.ListN.{get_or}
 use Rattle.steps.specs.declared.Step.{Step}
 use Rattle.steps.specs.Faults.{every}
 use Rattle.steps.specs.Reads.{reads_by}
-use Rattle.steps.specs.Rules.{table}
+use Rattle.steps.specs.Own.{limit}
+use Rattle.steps.specs.Rules.{table, uses_of}
 use Rattle.steps.specs.Sets.{in_set}
-use Rattle.steps.proofs.Columns.{a-limits, b-limits, c-limits}
 use Rattle.steps.proofs.Each.{each}
 
 module _ (s : Step) (set : ℕ) where
   abbrev Tested : ℕ → Type 0
   Tested k =
-      (ltb (get_or a-limits k 0) 2 || in_set set s.a) && ((ltb (get_or b-limits k 0) 2 || in_set set s.b) && (ltb (get_or c-limits k 0) 2 || in_set set s.c))
+      (ltb (limit (uses_of k).a) 2 || in_set set s.a) && ((ltb (limit (uses_of k).b) 2 || in_set set s.b) && (ltb (limit (uses_of k).c) 2 || in_set set s.c))
       ≡ every (in_set set) (reads_by k s)
 
   three : Tested 14
@@ -51,5 +50,5 @@ module _ (s : Step) (set : ℕ) where
 
 -- what is told of each row
 pub reads-told : (s : Step) (set k : ℕ) (a b c : Bool) → k < 15 → a ≡ in_set set s.a → b ≡ in_set set s.b → c ≡ in_set set s.c
-    → (ltb (get_or a-limits k 0) 2 || a) && ((ltb (get_or b-limits k 0) 2 || b) && (ltb (get_or c-limits k 0) 2 || c)) ≡ every (in_set set) (reads_by k s)
+    → (ltb (limit (uses_of k).a) 2 || a) && ((ltb (limit (uses_of k).b) 2 || b) && (ltb (limit (uses_of k).c) 2 || c)) ≡ every (in_set set) (reads_by k s)
 reads-told s set k a b c h p q r = rw (p, q, r) (reads-tested s set k h)

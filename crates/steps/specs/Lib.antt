@@ -6,3 +6,4 @@ pub mod Faults
 pub mod Meaning
 pub mod Promises
 pub mod Own
+pub mod Answers

@@ -6,6 +6,7 @@ use crate::Step;
 use little_endian::word_at;
 
 // The step whose first byte is at place i.
+#[tactic(auto, unfolding(crate::specs::Steps::step_at))]
 pub fn step_at(bytes: &[u8], i: usize) -> Step
     requires { i + 24 ≤ length bytes.now }
     ensures { result ≡ step_at bytes.now i }

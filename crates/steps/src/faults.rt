@@ -1,24 +1,25 @@
 // What is wrong with a step, and the rows that are filled before it.
-ghost use Rattle.std.specs.Prelude.{◌≡◌, true, ℕ, ◌%◌, ◌^◌, ◌<◌};
+ghost use Rattle.std.specs.Prelude.{◌≡◌, ℕ, ◌%◌, ◌^◌, ◌<◌, IfOk};
 ghost use Rattle.std.specs.Int.Bits.{bit_or};
 ghost use Rattle.steps.specs.Faults.{every, step_fault};
 ghost use Rattle.steps.specs.Own.{fault_at};
 ghost use Rattle.steps.specs.Reads.{reads};
-ghost use Rattle.steps.specs.Rules.{keeps};
 ghost use Rattle.steps.specs.Sets.{in_set};
 
 use crate::Step;
-use crate::rules::{A_VALUES, B_VALUES, C_VALUES, keeps_rules};
+use crate::lawful::{LawfulStep, lawful_step};
+use crate::rules::values_of;
 use insn::Refusal;
 
-// What a step is found to be.
-#[derive(Clone, Copy)]
-pub enum Verdict {
-    Sound,
-    Faulty(Refusal),
+// Why a sheet is not translated, and the index of the step where the cause is in one.
+#[derive(Clone, Copy, PartialEq, Eq)]
+pub struct SheetError {
+    pub cause: Refusal,
+    pub step: Option<u64>,
 }
 
 // Whether a set has row r.
+#[tactic(auto, unfolding(crate::specs::Sets::in_set))]
 pub fn has_row(set: u16, r: u8) -> bool
     requires { r < 16 }
     ensures { result ≡ in_set set r }
@@ -34,26 +35,28 @@ pub fn with_row(set: u16, r: u8) -> u16
 }
 
 // Whether every row that a step reads is in a set. A byte with one value is not used.
-fn reads_within(s: Step, set: u16) -> bool
-    requires { keeps s ≡ true }
-    ensures { result ≡ every (in_set set) (reads s) }
+#[tactic(auto, using(crate::proofs::Kept::bytes_small))]
+fn reads_within(s: LawfulStep, set: u16) -> bool
+    ensures { result ≡ every (in_set set) (reads s.step) }
 {
-    let k = s.kind as usize;
+    let s = s.step;
+    let v = values_of(s.kind);
     let a = has_row(set, s.a);
     let b = has_row(set, s.b);
     let c = has_row(set, s.c);
-    ((A_VALUES[k] < 2) | a) & (((B_VALUES[k] < 2) | b) & ((C_VALUES[k] < 2) | c))
+    ((v.a < 2) | a) & (((v.b < 2) | b) & ((v.c < 2) | c))
 }
 
-// The fault of a step, where a set has the rows that are filled before it.
-pub fn step_fault(s: Step, filled: u16) -> Verdict
-    ensures { (i : ℕ) → fault_at i result ≡ step_fault (in_set filled) i s }
+// The step, which keeps the rules, or the refusal of it; a set has the rows that are filled before it.
+pub fn step_fault(step: Step, filled: u16) -> Result<LawfulStep, Refusal>
+    ensures fault { (i : ℕ) → fault_at i result ≡ step_fault (in_set filled) i step }
+    ensures same { IfOk result (λ s. s.step ≡ step) }
 {
-    if !keeps_rules(s) {
-        return Verdict::Faulty(Refusal::StepRule);
-    }
+    let Some(s) = lawful_step(step) else {
+        return Err(Refusal::StepRule);
+    };
     if !reads_within(s, filled) {
-        return Verdict::Faulty(Refusal::UnfilledRow);
+        return Err(Refusal::UnfilledRow);
     }
-    Verdict::Sound
+    Ok(s)
 }

@@ -3,6 +3,7 @@
 
 pub mod bytes;
 pub mod faults;
+pub mod lawful;
 pub mod rules;
 
 // One step, its bytes by name; the two words are the last sixteen bytes.

@@ -5,7 +5,7 @@ ghost use Rattle.tables.specs.Lengths.{lengths, shape_lengths, class_lengths};
 use crate::{DiffShape, ShiftClass};
 
 // Whether Vd, Vn and Vm are quadwords; a shift has no Vn, and its n is as its m.
-#[derive(Clone, Copy)]
+#[derive(Clone, Copy, PartialEq, Eq)]
 pub struct Lengths {
     pub d: bool,
     pub n: bool,

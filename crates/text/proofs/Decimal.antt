@@ -6,13 +6,13 @@ use mathlib.Core.Bool.{Bool, true, false}
 use Prim.Native.Nat.{ℕ, zero, suc, ◌+◌, ◌/◌, ◌%◌, ◌^◌, ◌<◌, ◌≤◌}
 use native.Mathlib.Nat.{add-zero, not-suc-le-zero, pow-succ'}
 use native.Mathlib.Omega.{arith}
-use lib.Dec.{ltb}
-use borrow.Author.Tests.{ltb-true, ltb-false}
-use lib.ListN.{length, length-append}
-use Rattle.laws.specs.Choice.{choose}
+use lib.Dec.{ltb, leb}
+use borrow.Author.Tests.{ltb-true, ltb-false, leb-true, leb-false}
+use lib.ListN.{length, set, length-append}
+use mir.Val.{bool_byte}
 use Rattle.laws.specs.Placed.{Placed}
 use Rattle.text.specs.Text.{digits, decimal}
-use Rattle.laws.proofs.Placed.{then, over, widen}
+use Rattle.laws.proofs.Placed.{one, then, over, widen}
 
 digits-zero : (f : ℕ) → digits f 0 ≡ []
 unfolding digits
@@ -83,15 +83,20 @@ pub twenty : (n : ℕ) → n < 2 ^ 64 → length (decimal n) ≤ 20
 twenty n h = within 19 n (omega arith)
 
 -- two digits, of which the last is put over the first where that is a leading 0
-pub small : {l l' l'' : List ℕ} {i j k w : ℕ} (n : ℕ) → n < 100 → w ≡ choose (ltb n 10) 0 1 → Placed 1 l i ((48 + n / 10) ∷ []) l' j
-    → Placed 1 l' (i + w) ((48 + n % 10) ∷ []) l'' k → Placed 2 l i (decimal n) l'' k
-small {l = l} {l'' = l''} {i = i} {j = j} {k = k} n h e p q = go (ltb n 10) refl
+pub small : {l l' l'' : List ℕ} {i w : ℕ} (n : ℕ) → n < 100 → w ≡ bool_byte (leb 10 n) → l' ≡ set l i (48 + n / 10)
+    → l'' ≡ set l' (i + w) (48 + n % 10) → Placed 2 l i (decimal n) l'' (i + w + 1)
+small {l = l} {l'' = l''} {i = i} {w = w} n h e s q = go (leb 10 n) refl
   where
-    go : (b : Bool) → ltb n 10 ≡ b → Placed 2 l i (decimal n) l'' k
+    first : Placed 1 l i ((48 + n / 10) ∷ []) (set l i (48 + n / 10)) (i + 1)
+    first = one l i (48 + n / 10)
+
+    second : Placed 1 (set l i (48 + n / 10)) (i + w) ((48 + n % 10) ∷ []) l'' (i + w + 1)
+    second = rw (q, s) (one (set l i (48 + n / 10)) (i + w) (48 + n % 10))
+
+    go : (b : Bool) → leb 10 n ≡ b → Placed 2 l i (decimal n) l'' (i + w + 1)
     go true t =
-        let m : n % 10 ≡ n = omega (arith, ltb-true n 10 t) in
-        let o = rw (e, t, add-zero) at q in
-        rw (decimal-one n (ltb-true n 10 t)) (widen (omega arith) (over p (rw m at o)))
+        rw (decimal-two n (leb-true 10 n t) h, e, t) (then first (rw (e, t) at second))
     go false t =
-        let m : i + 1 ≡ j = sym p.next in
-        rw (decimal-two n (ltb-false n 10 t) h) (then p (rw (e, t, m) at q))
+        let b : n < 10 = leb-false 10 n t in
+        let m : n % 10 ≡ n = omega arith in
+        rw (decimal-one n b, e, t, add-zero) (widen (omega arith) (over first (rw (e, t, add-zero, m) at second)))

@@ -2,14 +2,15 @@
 #![tactic(auto)]
 
 ghost use Rattle.std.specs.Prelude.{◌≡◌, ◌∷◌, [], ◌++◌, ◌+◌, ◌<◌, ◌^◌, length};
-ghost use Rattle.laws.specs.Placed.{Placed};
 ghost use Rattle.text.specs.Text.{decimal};
-ghost use Rattle.totals.specs.Totals.{family_sort, column, totals_text};
+ghost use Rattle.text.specs.Writes.{Writes};
+ghost use Rattle.totals.specs.Totals.{family_sort, totals_text};
 ghost use Rattle.totals.specs.Own.{figure_in, counted};
 
 use decode::Family;
+use text::Page;
 
-// The sort of a pair: its family if it is accepted, else refused.
+// The sort of a pair: its family if it is accepted, else refused; in the order of the columns.
 #[derive(Clone, Copy)]
 pub enum Sort {
     Same,
@@ -20,6 +21,7 @@ pub enum Sort {
 }
 
 // The sort of an accepted pair of a family.
+#[tactic(auto, unfolding(crate::specs::Totals::family_sort))]
 pub fn family_sort(f: Family) -> Sort
     ensures { result ≡ family_sort f }
 {
@@ -32,47 +34,33 @@ pub fn family_sort(f: Family) -> Sort
     }
 }
 
-// A sort's column in the line of totals.
-fn column(s: Sort) -> usize
-    ensures { (result ≡ column s) × (result < 5) }
-{
-    match s {
-        Sort::Same => 0,
-        Sort::Diff => 1,
-        Sort::Shifted => 2,
-        Sort::Imm => 3,
-        Sort::Refused => 4,
-    }
-}
-
 // One more of a sort.
 pub fn count_one(counts: &mut [u16; 5], s: Sort)
     requires { figure_in counts.old s < 65535 }
     ensures { counts.new ≡ counted counts.old s }
 {
-    let k = column(s);
-    counts[k] += 1;
+    counts[s as usize] += 1;
 }
 
 // A word and its figure.
-fn put_figure(out: &mut [u8], at: usize, word: &[u8], n: u16) -> usize
-    requires at_bound { at < 2 ^ 60 }
+fn put_figure(page: &mut Page<u8>, word: &[u8], n: u16)
+    requires at_bound { page.old.at < 2 ^ 60 }
     requires word_len_bound { length word.now < 10 }
-    ensures { Placed (length word.now + 5) out.old at (word.now ++ decimal n) out.new result }
+    ensures { Writes (length word.now + 5) page.old (word.now ++ decimal n) page.new }
 {
-    let p = text::put_text(out, at, word);
-    text::put_five(out, p, n as u64)
+    page.put_text(word);
+    page.put_five(n as u64);
 }
 
 // The line of totals and its end.
-pub fn put_totals(out: &mut [u8], at: usize, counts: &[u16; 5]) -> usize
-    requires { at < 2 ^ 59 }
-    ensures { Placed 58 out.old at (totals_text (figure_in counts.now) ++ 10 ∷ []) out.new result }
+pub fn put_totals(page: &mut Page<u8>, counts: &[u16; 5])
+    requires { page.old.at < 2 ^ 59 }
+    ensures { Writes 58 page.old (totals_text (figure_in counts.now) ++ 10 ∷ []) page.new }
 {
-    let p = put_figure(out, at, b"same ", counts[0]);
-    let q = put_figure(out, p, b" diff ", counts[1]);
-    let r = put_figure(out, q, b" shift ", counts[2]);
-    let s = put_figure(out, r, b" imm ", counts[3]);
-    let t = put_figure(out, s, b" refused ", counts[4]);
-    text::put(out, t, 10)
+    put_figure(page, b"same ", counts[0]);
+    put_figure(page, b" diff ", counts[1]);
+    put_figure(page, b" shift ", counts[2]);
+    put_figure(page, b" imm ", counts[3]);
+    put_figure(page, b" refused ", counts[4]);
+    page.put(b'\n');
 }

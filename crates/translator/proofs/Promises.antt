@@ -1,16 +1,14 @@
 -- The promises of specs/Promises.antt.
 -- Assumes nothing.
-use mathlib.Core.Path.{◌≡◌, sym, ◌∙◌, ap}
+use mathlib.Core.Path.{sym, ◌∙◌, ap}
 use lib.ListN.{length}
 use Prim.Native.Nat.{ℕ}
-use Rattle.laws.proofs.Never.{never}
-use Rattle.insn.proofs.Promises.{numbered_apart}
-use Rattle.translator.specs.declared.Translation.TheVariants.{Pairs, Refused, RefusedAt}
 use Rattle.laws.specs.AnswerAt.{AnswerAt}
 use Rattle.recipes.specs.Pairs.{pairs_of, halfwords_of}
 use Rattle.steps.specs.Faults.{Fault}
 use Rattle.steps.specs.Steps.{steps_of}
 use Rattle.steps.proofs.FirstFaults.{sound_exactly}
+use Rattle.steps.proofs.Answers.{answers_at_apart}
 use Rattle.steps.proofs.Promises as steps
 use Rattle.translator.specs.Promises.{Exactly, AsBefore, LargerTranslates, MarksIgnored, AllWritten, HalfShort, OutputKept, TranslationsApart}
 use Rattle.translator.specs.Translation.{records_of, translation_by, written_by}
@@ -50,12 +48,4 @@ pub output_kept : OutputKept
 output_kept = kept-unless
 
 pub translations_apart : TranslationsApart
-translations_apart (Pairs m) (Pairs n) e = ap Pairs (cc)
-translations_apart (Pairs m) (Refused g) e = never (cc)
-translations_apart (Pairs m) (RefusedAt g j) e = never (cc)
-translations_apart (Refused f) (Pairs n) e = never (cc)
-translations_apart (Refused f) (Refused g) e = ap Refused (numbered_apart f g (cc))
-translations_apart (Refused f) (RefusedAt g j) e = never (cc)
-translations_apart (RefusedAt f i) (Pairs n) e = never (cc)
-translations_apart (RefusedAt f i) (Refused g) e = never (cc)
-translations_apart (RefusedAt f i) (RefusedAt g j) e = let k = numbered_apart f g (cc) in let l : i ≡ j = cc in λ x. RefusedAt (k x) (l x)
+translations_apart = answers_at_apart

@@ -3,7 +3,7 @@
 use mathlib.Core.Path.{◌≡◌, refl, sym, ◌∙◌, ap}
 use mathlib.Core.Bool.{Bool, true, false, not}
 use mathlib.Core.List.{List, ◌++◌}
-use mathlib.Core.Logic.{◌≢◌}
+use mathlib.Core.Logic.{◌≢◌, ◌⊎◌, inl, inr}
 use Prim.Native.Nat.{ℕ, ◌*◌, ◌%◌, ◌≤◌, ◌<◌}
 use native.Mathlib.Omega.{arith}
 use lib.Dec.{eqb, ltb}
@@ -18,36 +18,43 @@ use Rattle.laws.proofs.Placed.{whole}
 use Rattle.steps.specs.declared.Terms.{Terms}
 use Rattle.steps.specs.Faults.{Fault, sound, fault, first_fault, unless_fault}
 use Rattle.steps.specs.Steps.{steps_of}
+use Rattle.steps.specs.declared.faults.SheetError.{SheetError}
+use Rattle.steps.specs.Answers.{refused_for}
+use Rattle.steps.proofs.Answers.{not_accepted}
 use Rattle.steps.proofs.FirstFaults.{sound_exactly}
 use Rattle.recipes.specs.Pairs.{halfwords_of}
 use Rattle.translator.specs.Translation.{records_of, translation_by, translation_of, written_by, written_of, Translates}
 use Rattle.recipes.proofs.ByKind.{sheet-written}
 use Rattle.recipes.proofs.Writes.{written-length}
 
+-- a refusal is so whatever the answer to no fault is
+refusal_stays : (x : Fault) (n : ℕ) (b : AnswerAt ℕ) (e : SheetError) → refused_for e ≡ unless_fault x (accepted n) → refused_for e ≡ unless_fault x b
+refusal_stays sound n b e r = not_accepted n e (sym r)
+refusal_stays (fault m i) n b e r = r
+
 module _ (t : Terms) (s : List ℕ) (room : ℕ) where
   abbrev first : Fault
   first = first_fault t (steps_of s)
 
-  pub uneven : (length s % 24 ≡ 0 → ⊥) → translation_of t s room ≡ refused 12
+  -- no whole steps, or too many
+  pub length-refused : (length s % 24 ≡ 0 → ⊥) ⊎ ((length s % 24 ≡ 0) × (6144 < length s)) → refused 12 ≡ translation_of t s room
   unfolding translation_by
-  uneven n = rw (ne_eqb (length s % 24) 0 n)
+  length-refused (inl n) = rw (ne_eqb (length s % 24) 0 n) refl
+  length-refused (inr h) = rw (eq-eqb (length s % 24) 0 h.0, lt-ltb 6144 (length s) h.1) refl
 
-  pub overlong : length s % 24 ≡ 0 → 6144 < length s → translation_of t s room ≡ refused 12
-  unfolding translation_by
-  overlong e h = rw (eq-eqb (length s % 24) 0 e, lt-ltb 6144 (length s) h)
-
-  module _ (e : length s % 24 ≡ 0) (h : length s ≤ 6144) where
-    pub breaks : (n i : ℕ) → first ≡ fault n i → translation_of t s room ≡ refused_at n i
+  module _ (w : length s % 24 ≡ 0) (h : length s ≤ 6144) where
+    -- a refusal of the measure is the translation's
+    pub breaks : (e : SheetError) → refused_for e ≡ unless_fault first (accepted (length (records_of s))) → refused_for e ≡ translation_of t s room
     unfolding translation_by
-    breaks n i f = rw (eq-eqb (length s % 24) 0 e, le-ltb 6144 (length s) h, f) refl
+    breaks e r = rw (eq-eqb (length s % 24) 0 w, le-ltb 6144 (length s) h) (refusal_stays first _ _ e r)
 
     pub short : first ≡ sound → room < 2 * length (records_of s) → translation_of t s room ≡ refused 14
     unfolding translation_by
-    short f r = rw (eq-eqb (length s % 24) 0 e, le-ltb 6144 (length s) h, f, lt-ltb room (2 * length (records_of s)) r) refl
+    short f r = rw (eq-eqb (length s % 24) 0 w, le-ltb 6144 (length s) h, f, lt-ltb room (2 * length (records_of s)) r) refl
 
     pub all : first ≡ sound → 2 * length (records_of s) ≤ room → translation_of t s room ≡ accepted (length (records_of s))
     unfolding translation_by
-    all f r = rw (eq-eqb (length s % 24) 0 e, le-ltb 6144 (length s) h, f, le-ltb room (2 * length (records_of s)) r) refl
+    all f r = rw (eq-eqb (length s % 24) 0 w, le-ltb 6144 (length s) h, f, le-ltb room (2 * length (records_of s)) r) refl
 
 -- a refusal is no pair count
 pub not-refused : {P : Type 0} (n r : ℕ) → refused r ≡ accepted n → P
@@ -99,21 +106,17 @@ module _ (t : Terms) (s : List ℕ) (room n : ℕ) where
 
 -- the output after each case
 module _ (t : Terms) (s out : List ℕ) where
-  pub kept : (r : ℕ) → translation_of t s (length out) ≡ refused r → written_of t s out ≡ out
-  unfolding written_by
-  kept r e = rw e
-
-  pub kept_at : (r i : ℕ) → translation_of t s (length out) ≡ refused_at r i → written_of t s out ≡ out
-  unfolding written_by
-  kept_at r i e = rw e
-
   pub kept-unless : ((n : ℕ) → translation_of t s (length out) ≢ accepted n) → written_of t s out ≡ out
+  unfolding written_by
   kept-unless other = go (translation_of t s (length out)) refl
     where
       go : (a : AnswerAt ℕ) → translation_of t s (length out) ≡ a → written_of t s out ≡ out
       go (accepted n) e = absurd (other n e)
-      go (refused r) e = kept r e
-      go (refused_at r i) e = kept_at r i e
+      go (refused r) e = rw e
+      go (refused_at r i) e = rw e
+
+  pub kept : (e : SheetError) → refused_for e ≡ translation_of t s (length out) → out ≡ written_of t s out
+  kept e a = sym (kept-unless (λ n b. not_accepted n e (sym (a ∙ b))))
 
   module _ (n : ℕ) (a : Translates t s (length out) n) where
     -- two halfwords a pair
@@ -133,14 +136,7 @@ module _ (t : Terms) (s out : List ℕ) where
         let l = code-size in
         whole (omega (arith, a.long)) p ∙ rw l (sym front)
 
--- what a measure says of the first fault, and of the pairs
-pub told-fault : (x : Fault) (count n i : ℕ) → refused_at n i ≡ unless_fault x (accepted count) → x ≡ fault n i
-told-fault sound count n i e = not-refused-at count n i e
-told-fault (fault m j) count n i e =
-    let p : m ≡ n = cc in
-    let q : j ≡ i = cc in
-    λ k. fault (p k) (q k)
-
+-- what a measure says of the pairs
 pub told-count : (x : Fault) (count n : ℕ) → accepted n ≡ unless_fault x (accepted count) → (x ≡ sound) × (n ≡ count)
 told-count sound count n e = (refl, cc)
 told-count (fault m j) count n e = not-refused-at n m j (sym e)

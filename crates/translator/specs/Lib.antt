@@ -1,3 +1,2 @@
 pub mod Translation
-pub mod Answers
 pub mod Promises

@@ -1,6 +1,6 @@
 -- Promises beyond the contract; proofs/Promises.antt proves each under its name.
 -- Assumes nothing.
-use Rattle.std.specs.Prelude.{List, ◌≢◌, ◌≡◌, ℕ, ◌*◌, ◌%◌, ◌^◌, ◌≤◌, length}
+use Rattle.std.specs.Prelude.{List, ◌≢◌, ◌≡◌, ℕ, ◌*◌, ◌%◌, ◌^◌, ◌≤◌, length, Result}
 use Rattle.laws.specs.AnswerAt.{accepted}
 use Rattle.steps.specs.declared.Step.{Step}
 use Rattle.steps.specs.declared.Terms.{Terms}
@@ -8,8 +8,8 @@ use Rattle.steps.specs.Faults.{terms}
 use Rattle.steps.specs.Promises.{first_broken, HasAll, Within}
 use Rattle.steps.specs.Rules.{AllKeep}
 use Rattle.steps.specs.Steps.{steps_of}
-use Rattle.translator.specs.declared.Translation.{Translation}
-use Rattle.translator.specs.Answers.{translation_answer}
+use Rattle.steps.specs.declared.faults.SheetError.{SheetError}
+use Rattle.steps.specs.Answers.{answer_at}
 use Rattle.recipes.specs.Pairs.{half_pairs, pairs_of, halfwords_of}
 use Rattle.translator.specs.Translation.{records_of, translation_by, translation_of, written_by, written_of, Translates}
 
@@ -53,4 +53,4 @@ OutputKept = (t : Terms) (bytes out : List ℕ) → ((n : ℕ) → translation_o
 
 -- an answer says which case it is
 abbrev pub TranslationsApart : Type 0
-TranslationsApart = (x y : Translation) → translation_answer x ≡ translation_answer y → x ≡ y
+TranslationsApart = (x y : Result ℕ SheetError) → answer_at x ≡ answer_at y → x ≡ y

@@ -3,44 +3,34 @@
 
 ghost use Rattle.std.specs.Prelude.{◌≡◌, length};
 ghost use Rattle.steps.specs.Faults.{terms};
-ghost use Rattle.translator.specs.Answers.{translation_answer};
+ghost use Rattle.steps.specs.Answers.{answer_at};
 ghost use Rattle.translator.specs.Translation.{translation_of, written_of};
 
 use emit::put_steps;
 use insn::Refusal;
-use measure::{Measured, measure};
+use measure::measure;
 use steps::Terms;
-
-// What a translation answers: the pair count; or the refusal, with the index of its step where it has one.
-#[derive(Clone, Copy)]
-pub enum Translation {
-    Pairs(u64),
-    Refused(Refusal),
-    RefusedAt(Refusal, u64),
-}
+use steps::faults::SheetError;
 
 // Translates a sheet into the output, where row r was filled beforehand if bit r of the list is set. A refusal writes
 // nothing.
-pub fn translate(sheet: &[u8], filled: u16, out: &mut [u16]) -> Translation
-    ensures answer { translation_answer result ≡ translation_of (terms filled) sheet.now (length out.old) }
+pub fn translate(sheet: &[u8], filled: u16, out: &mut [u16]) -> Result<u64, SheetError>
+    ensures answer { answer_at result ≡ translation_of (terms filled) sheet.now (length out.old) }
     ensures written { out.new ≡ written_of (terms filled) sheet.now out.old }
 {
-    if sheet.len() % 24 != 0 {
-        return Translation::Refused(Refusal::SheetLength);
+    if sheet.len() % 24 != 0 || 6144 < sheet.len() {
+        return Err(SheetError {
+            cause: Refusal::SheetLength,
+            step: None,
+        });
     }
-    if 6144 < sheet.len() {
-        return Translation::Refused(Refusal::SheetLength);
+    let pairs = measure(sheet, Terms { filled })?;
+    if ((out.len() / 2) as u64) < pairs {
+        return Err(SheetError {
+            cause: Refusal::ShortOutput,
+            step: None,
+        });
     }
-    let n = sheet.len() / 24;
-    let found = measure(sheet, n, Terms { filled });
-    match found {
-        Measured::Faulty(cause, step) => Translation::RefusedAt(cause, step),
-        Measured::Pairs(pairs) => {
-            if ((out.len() / 2) as u64) < pairs {
-                return Translation::Refused(Refusal::ShortOutput);
-            }
-            put_steps(sheet, n, out);
-            Translation::Pairs(pairs)
-        }
-    }
+    put_steps(sheet, out);
+    Ok(pairs)
 }

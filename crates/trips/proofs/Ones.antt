@@ -1,15 +1,14 @@
 -- Values that have a place: 1 for every cell of A7-12 that is not blank, 0 for every such cell of VMOVL, imm8 = 1 for every such cell of A7-14.
 -- Assumes nothing.
 use mathlib.Core.Path.{◌≡◌, refl, sym, ap, ◌∙◌}
-use mathlib.Core.Bool.{Bool, true, false}
+use mathlib.Core.Bool.{true, false}
 use Prim.Native.Nat.{ℕ, ◌+◌, ◌*◌, ◌/◌, ◌%◌, ◌<◌}
 use native.Mathlib.Omega.{arith}
 use lib.Ieee.{fits}
 use lib.IntN.{pos}
 use lib.Text.{eqt}
-use Rattle.laws.specs.Answer.{Answer, accepted}
+use Rattle.laws.specs.Answer.{Answer, accepted, refused}
 use Rattle.laws.specs.Choice.{choose}
-use Rattle.laws.specs.Search.{Found, at, none}
 use Rattle.laws.specs.Signed.{twos_complement}
 use Rattle.laws.proofs.Range.{values, agree}
 use Rattle.laws.proofs.Never.{wrong}
@@ -24,44 +23,39 @@ use Rattle.homes.proofs.Cells.{Stands, filled, class_at}
 use Rattle.fields.specs.Halfwords.{field}
 use Rattle.floats.specs.Floats.{float_of}
 use Rattle.immediates.specs.Modified.{constant_at, element, operand_in}
-use Rattle.writings.specs.Numbers.{or_nine}
 use Rattle.amount_values.specs.Amounts.{amount_in}
-use Rattle.amount_values.proofs.Amounts.{placed, amount-place}
+use Rattle.amount_values.proofs.Amounts.{tests, amount-place}
 use Rattle.immediate_values.specs.Immediates.{immediate_in}
 use Rattle.immediate_values.proofs.Immediates.{op, cmode, imm8}
 use Rattle.write_immediates.specs.Shift.{vshll_cell}
+use Rattle.encode.specs.Promises.{is_accepted}
 use Rattle.trips.proofs.RoundModimm.{place-again}
 use Rattle.trips.proofs.Values.{has64_bits}
 
--- whether a place was found
-abbrev is_at : Found → Bool
-is_at (at k) = true
-is_at none = false
+has-place : (x y : Answer ℕ) → is_accepted x ≡ true → x ≡ y → (t : ℕ) × (y ≡ accepted t)
+has-place (accepted t) y e q = (t, sym q)
+has-place (refused n) y e q = wrong e
 
-is-at : (f : Found) (x : Answer ℕ) → is_at f ≡ true → or_nine f ≡ x → (t : ℕ) × (x ≡ accepted t)
-is-at (at k) x e q = (k, sym q)
-is-at none x e q = wrong e
-
-one_placed : (k : ℕ) → k < 256 → eqt (cell4 shift_cells k) "" ≡ false → is_at (placed (class_at k) (field 1 0 k) 1) ≡ true
+one_accepted : (k : ℕ) → k < 256 → eqt (cell4 shift_cells k) "" ≡ false → is_accepted (tests (class_at k) (field 1 0 k) 1) ≡ true
 unfolding values shift_rows shift_cells shift_classes
-one_placed k h e =
-    rw e at (agree (λ (k : ℕ). choose (eqt (cell4 shift_cells k) "") true (is_at (placed (class_at k) (field 1 0 k) 1))) (λ (k : ℕ). true) 256 refl k h)
+one_accepted k h e =
+    rw e at (agree (λ (k : ℕ). choose (eqt (cell4 shift_cells k) "") true (is_accepted (tests (class_at k) (field 1 0 k) 1))) (λ (k : ℕ). true) 256 refl k h)
 
-zero-placed : (k : ℕ) → k < 8 → eqt (cell4 vmovl k) "" ≡ false → is_at (placed (class_at (vshll_cell k)) (field 1 0 (vshll_cell k)) 0) ≡ true
+zero-accepted : (k : ℕ) → k < 8 → eqt (cell4 vmovl k) "" ≡ false → is_accepted (tests (class_at (vshll_cell k)) (field 1 0 (vshll_cell k)) 0) ≡ true
 unfolding values shift_rows shift_classes vmovl
-zero-placed k h e =
+zero-accepted k h e =
     rw e at
-    (agree (λ (k : ℕ). choose (eqt (cell4 vmovl k) "") true (is_at (placed (class_at (vshll_cell k)) (field 1 0 (vshll_cell k)) 0))) (λ (k : ℕ). true) 8 refl k h)
+    (agree (λ (k : ℕ). choose (eqt (cell4 vmovl k) "") true (is_accepted (tests (class_at (vshll_cell k)) (field 1 0 (vshll_cell k)) 0))) (λ (k : ℕ). true) 8 refl k h)
 
 pub one-amount : (k : ℕ) → k < 256 → eqt (cell4 shift_cells k) "" ≡ false → (t : ℕ) × (amount_in (class_at k) (field 1 0 k) (Imm (pos 1)) ≡ accepted t)
 one-amount k h e =
-    is-at (placed (class_at k) (field 1 0 k) 1) _ (one_placed k h e) (amount-place (class_at k) (field 1 0 k) 1 (omega arith) (omega arith))
+    has-place _ _ (one_accepted k h e) (amount-place (class_at k) (field 1 0 k) 1 (omega arith) (omega arith))
 
 pub zero-amount : (k : ℕ) → k < 8 → eqt (cell4 vmovl k) "" ≡ false
     → (t : ℕ) × (amount_in (class_at (vshll_cell k)) (field 1 0 (vshll_cell k)) (Imm (pos 0)) ≡ accepted t)
 zero-amount k h e =
     let j = vshll_cell k in
-    is-at (placed (class_at j) (field 1 0 j) 0) _ (zero-placed k h e) (amount-place (class_at j) (field 1 0 j) 0 (omega arith) (omega arith))
+    has-place _ _ (zero-accepted k h e) (amount-place (class_at j) (field 1 0 j) 0 (omega arith) (omega arith))
 
 -- what imm8 = 1 stands for in a cell of A7-14
 abbrev pub one : ℕ → Operand

@@ -58,7 +58,7 @@ use Rattle.trips.specs.Promises.{ReadsAs}
 use Rattle.trips.proofs.Canonical.{spelt, as-spelt}
 use Rattle.writings.proofs.Only.{found_at}
 use Rattle.writings.proofs.Pairs.{hw1_of, hw2_of}
-use Rattle.immediate_values.proofs.Immediates.{op, cmode, imm8, row_of, says, is_float, float-rows, only-number, spelled_back, equal, float-found}
+use Rattle.immediate_values.proofs.Immediates.{op, cmode, imm8, row_of, says, is_float, float-rows, only-number, spelled_back, equal, float_found}
 use Rattle.trips.proofs.Registers.{register-back, register-forth, quad-of}
 use Rattle.readings.proofs.Parts.{two_operands}
 use Rattle.trips.proofs.Routing.{ImmediateBits, to-modimm, set-bit, bit-set, bit-small, number-back, d_of, d-fields}
@@ -269,7 +269,7 @@ module _ (t : ℕ) (ht : t < 8192) (filled : eqt (cell16 modimm (t / 256)) "" �
   float-again e =
       let row : t / 256 ≡ 15 = eqb-true (t / 256) 15 (sym (float-rows (t / 256) (omega arith)) ∙ rw (top, e)) in
       let same : 0xf00 + imm8 t ≡ t = omega arith in
-      sym (float-found (float_of (imm8 t)) (fitting (imm8 t) (omega arith)) (imm8 t) (float_back (imm8 t) (omega arith))) ∙ ap accepted same
+      sym (float_found (float_of (imm8 t)) (fitting (imm8 t) (omega arith)) (imm8 t) (float_back (imm8 t) (omega arith))) ∙ ap accepted same
 
   pub place-again : immediate_in (name_of (number_of cell)) (modimm_operand (op t) (cmode t) (imm8 t)) ≡ accepted t
   unfolding immediate_in operand_in

@@ -8,7 +8,6 @@ use native.Mathlib.Nat.{zero-add, sub-zero}
 use native.Mathlib.Omega.{arith}
 use lib.Bits.{bit_or}
 use lib.Dec.{leb}
-use lib.ListN.{get_or}
 use borrow.Author.Tests.{not-true, not-false}
 use Rattle.laws.specs.Choice.{choose, both}
 use Rattle.laws.specs.Search.{Found, at, none}
@@ -16,10 +15,10 @@ use Rattle.steps.specs.declared.Step.{Step}
 use Rattle.steps.specs.declared.Terms.{Terms}
 use Rattle.steps.specs.Faults.{every, fault, step_fault, fault_after, first_fault}
 use Rattle.steps.specs.Reads.{reads_by, reads}
-use Rattle.steps.specs.Rules.{table, keeps}
+use Rattle.steps.specs.Own.{limit}
+use Rattle.steps.specs.Rules.{table, uses_of, keeps}
 use Rattle.steps.specs.Sets.{in_set}
 use Rattle.steps.specs.Steps.{step_at, steps_from}
-use Rattle.steps.proofs.Columns.{a-limits, b-limits, c-limits}
 use Rattle.steps.proofs.Each.{each}
 use Rattle.steps.proofs.Filling.{breaks-rule, by_reads, keeps-rule, Known, known_start, known-after, fault-here, fault-later, fault-none}
 use Rattle.steps.proofs.Kept.{kept_of}
@@ -32,9 +31,9 @@ module _ (s : Step) (set : ℕ) where
   abbrev Searched : ℕ → Type 0
   Searched k =
       first_not (in_set set) (reads_by k s)
-      ≡ choose (both (leb 2 (get_or a-limits k 0)) (not (in_set set s.a))) (at s.a)
-      (choose (both (leb 2 (get_or b-limits k 0)) (not (in_set set s.b))) (at s.b)
-      (choose (both (leb 2 (get_or c-limits k 0)) (not (in_set set s.c))) (at s.c)
+      ≡ choose (both (leb 2 (limit (uses_of k).a)) (not (in_set set s.a))) (at s.a)
+      (choose (both (leb 2 (limit (uses_of k).b)) (not (in_set set s.b))) (at s.b)
+      (choose (both (leb 2 (limit (uses_of k).c)) (not (in_set set s.c))) (at s.c)
       none))
 
   -- a byte with one value is not used

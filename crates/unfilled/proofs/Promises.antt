@@ -5,14 +5,13 @@ use mathlib.Core.Bool.{Bool, true, false, not}
 use mathlib.Core.List.{List, [], ◌∷◌}
 use lib.ListN.{length}
 use Rattle.laws.specs.Choice.{choose}
-use Rattle.laws.proofs.Never.{never}
+use Rattle.laws.proofs.Found.{found_apart}
 use Rattle.steps.specs.declared.Step.{Step}
 use Rattle.steps.specs.declared.Terms.{Terms}
 use Rattle.steps.specs.Faults.{is_filled, every, Fault, sound, fault, first_of, step_fault, fault_after}
 use Rattle.steps.specs.Reads.{reads_by, reads}
 use Rattle.steps.specs.Rules.{table, keeps_rows, keeps_numbers, keeps}
 use Rattle.steps.specs.Sets.{in_set}
-use Rattle.unfilled.specs.declared.Unfilled.TheVariants.{Row, NoRow}
 use Rattle.unfilled.specs.Promises.{is_sixteen, is_named, UnfilledExactly, WorkedRows, UnfilledApart}
 use Rattle.unfilled.specs.Rows.{first_not, row_of_fault}
 use Rattle.unfilled.proofs.Finding.{named}
@@ -46,7 +45,4 @@ unfolding fault_after step_fault first_not keeps keeps_rows keeps_numbers reads_
 worked_rows = record { both-filled = refl; b-not-filled = refl; neither-filled = refl; own-target = refl; at-a-later-step = refl; sixteen-then-thirteen = refl; thirteen-then-sixteen = refl }
 
 pub unfilled_apart : UnfilledApart
-unfilled_apart (Row a) (Row b) e = ap Row (let k : a ≡ b = cc in k)
-unfilled_apart (Row a) NoRow e = never (cc)
-unfilled_apart NoRow (Row b) e = never (cc)
-unfilled_apart NoRow NoRow e = refl
+unfilled_apart = found_apart

@@ -1,13 +1,11 @@
 -- Promises beyond the contract; proofs/Promises.antt proves each under its name.
 -- Assumes nothing.
-use Rattle.std.specs.Prelude.{Bool, true, false, List, [], ◌∷◌, ◌≡◌, ◌+◌, ◌^◌, eqb}
-use Rattle.laws.specs.Search.{Found, at, none}
+use Rattle.std.specs.Prelude.{Bool, true, false, List, [], ◌∷◌, ◌≡◌, ◌+◌, ◌^◌, eqb, ℕ, Option}
+use Rattle.laws.specs.Search.{Found, at, none, found}
 use Rattle.steps.specs.declared.Step.{Step}
 use Rattle.steps.specs.declared.Terms.{Terms}
 use Rattle.steps.specs.Faults.{terms, Fault, sound, fault, first_fault}
 use Rattle.steps.specs.Promises.{sum, more, copied, no_step, picked}
-use Rattle.unfilled.specs.declared.Unfilled.{Unfilled}
-use Rattle.unfilled.specs.Answers.{unfilled_answer}
 use Rattle.unfilled.specs.Rows.{unfilled_row}
 
 -- a fault is a 16
@@ -36,4 +34,4 @@ pub record WorkedRows : Type 0 where
 
 -- an answer says which case it is
 abbrev pub UnfilledApart : Type 0
-UnfilledApart = (x y : Unfilled) → unfilled_answer x ≡ unfilled_answer y → x ≡ y
+UnfilledApart = (x y : Option ℕ) → found x ≡ found y → x ≡ y

@@ -1,39 +1,17 @@
 // The vectors of `machine_test`: a line's record stepped, and the file held to what the line says.
 #![tactic(auto)]
 
-use insn::{Insn, Mark, Operand};
-use machine::Outcome;
-use replay::{field, same_file};
+use effects::State;
+use insn::{Insn, Mark, Operand, Refusal};
+use replay::field;
 
-// The byte at place j of the name of mnemonic m; a space where there is none.
-fn byte(names: &[u8; 4152], m: u16, j: u8) -> u8 {
-    let at = m as usize * 12 + j as usize;
-    if j < 12 && at < 4152 { names[at] } else { b' ' }
-}
-
-// The byte at a place of a text; a space past its end.
-fn letter(text: &[u8], at: usize) -> u8 {
-    if at < text.len() { text[at] } else { b' ' }
-}
-
-fn begins(line: &[u8], names: &[u8; 4152], mnemonic: u16) -> bool {
-    for j in 0..12u8 {
-        if letter(line, j as usize) != byte(names, mnemonic, j) {
-            return false;
-        }
-    }
-    true
-}
-
-// The mnemonic with which the line begins; the number past the last, which is none, where there is none.
+// The mnemonic with which the line begins; where there is none, the number past the last, which has no meaning.
 fn mnemonic_of(line: &[u8]) -> u16 {
     let names = names::table();
-    for m in 0..names::COUNT {
-        if begins(line, &names, m) {
-            return m;
-        }
-    }
-    names::COUNT
+    (0..names::COUNT)
+        .zip(names.chunks_exact(12))
+        .find(|(_, name)| line.starts_with(name))
+        .map_or(names::COUNT, |(m, _)| m)
 }
 
 // The register at place k: D0, D2 or D4; Q0, Q1 or Q2.
@@ -98,13 +76,16 @@ fn operand(c: u8, k: u8, v: u64) -> Operand {
     }
 }
 
-// The record with the operands that stand at a place of the text: their count, and a letter for each of the three.
-fn lettered(mnemonic: u16, text: &[u8], at: u8, v: u64) -> Insn {
-    let from = at as usize;
-    let a = operand(letter(text, from + 1), 0, v);
-    let b = operand(letter(text, from + 2), 1, v);
-    let c = operand(letter(text, from + 3), 2, v);
-    insn_of(mnemonic, letter(text, from) % 16, a, b, c)
+// The record with some operands: their count, and a letter for each of the three.
+fn lettered(mnemonic: u16, letters: [u8; 4], v: u64) -> Insn {
+    let [count, a, b, c] = letters;
+    insn_of(
+        mnemonic,
+        count % 16,
+        operand(a, 0, v),
+        operand(b, 1, v),
+        operand(c, 2, v),
+    )
 }
 
 // A file with the words in both halves of Q0, Q1 and Q2.
@@ -131,30 +112,25 @@ fn start_of(line: &[u8; 153]) -> [u64; 32] {
     file
 }
 
-// Whether a step on a file, with a mark, has the refusal's number, 0 for done, and leaves the file `after` with a mark.
-fn steps(file: [u64; 32], mark: bool, i: Insn, number: u8, after: [u64; 32], marked: bool) -> bool {
-    let s = machine::step_insn(file, mark, i);
-    let outcome = s.outcome;
-    let left = s.file;
-    let got = match outcome {
-        Outcome::Done => 0,
-        Outcome::Refused(f) => insn::refusal_number(f),
-    };
-    if got != number {
-        return false;
+// Whether a step on a state comes out as it is due, and leaves the state `after`.
+fn steps(before: State, i: Insn, due: Result<(), Refusal>, after: State) -> bool {
+    match machine::step_insn(before, i) {
+        Ok(left) => due.is_ok() && left == after,
+        Err(f) => due == Err(f) && before == after,
     }
-    if s.mark != marked {
-        return false;
-    }
-    same_file(left, after)
 }
 
 // The same from a mark that is no, which the step turns or does not; and one that is yes stays.
-fn steps_marked(file: [u64; 32], i: Insn, number: u8, after: [u64; 32], turned: bool) -> bool {
-    if !steps(file, false, i, number, after, turned) {
-        return false;
-    }
-    steps(file, true, i, number, after, true)
+fn steps_marked(
+    before: [u64; 32],
+    i: Insn,
+    due: Result<(), Refusal>,
+    after: [u64; 32],
+    turned: bool,
+) -> bool {
+    let with = |file, mark| State { file, mark };
+    steps(with(before, false), i, due, with(after, turned))
+        && steps(with(before, true), i, due, with(after, true))
 }
 
 // Whether the line's vector passes, on doublewords or on quadwords. The shapes before the small letters are refused.
@@ -167,7 +143,7 @@ pub fn passes(line: &[u8; 100], quad: bool) -> bool {
         field(line, 66, 16),
     );
     if shape < b'a' {
-        return steps_marked(file, i, 10, file, false);
+        return steps_marked(file, i, Err(Refusal::NoMeaning), file, false);
     }
     let result = field(line, 83, 16);
     let mut after = file;
@@ -175,57 +151,50 @@ pub fn passes(line: &[u8; 100], quad: bool) -> bool {
     if quad {
         after[1] = result;
     }
-    steps_marked(file, i, 0, after, shape == b'm')
+    steps_marked(file, i, Ok(()), after, shape == b'm')
 }
 
 // Whether the line's vector passes on registers of different lengths: after + the mark turns, after ! it is refused.
 pub fn passes_unlike(line: &[u8; 153], sign: u8) -> bool {
-    let i = lettered(mnemonic_of(line), line, 13, field(line, 18, 2));
+    let letters = [line[13], line[14], line[15], line[16]];
+    let i = lettered(mnemonic_of(line), letters, field(line, 18, 2));
     let file = start_of(line);
     let mut after = file;
     after[0] = field(line, 136, 16);
     after[1] = field(line, 120, 16);
-    steps_marked(
-        file,
-        i,
-        if sign == b'!' { 10 } else { 0 },
-        after,
-        sign == b'+',
-    )
+    let due = if sign == b'!' {
+        Err(Refusal::NoMeaning)
+    } else {
+        Ok(())
+    };
+    steps_marked(file, i, due, after, sign == b'+')
+}
+
+// Whether a record has a meaning.
+fn means(i: Insn) -> bool {
+    let state = State {
+        file: start(0, 1, 2),
+        mark: false,
+    };
+    machine::step_insn(state, i) != Err(Refusal::NoMeaning)
 }
 
 // Whether a mnemonic has a meaning with the operands of vaddl, vaddw, vaddhn, vmovl, vshll or vshrn.
 fn has_unlike_meaning(mnemonic: u16) -> bool {
-    let file = start(0, 1, 2);
-    for k in 0..6u8 {
-        let i = lettered(mnemonic, b"3qdd3qqd3dqq2qd-3qd#3dq#", 4 * k, 1);
-        if !steps(file, false, i, 10, file, false) {
-            return true;
-        }
-    }
-    false
+    [*b"3qdd", *b"3qqd", *b"3dqq", *b"2qd-", *b"3qd#", *b"3dq#"]
+        .iter()
+        .any(|letters| means(lettered(mnemonic, *letters, 1)))
 }
 
 // Whether a mnemonic has a meaning with some shape of operands.
 fn has_meaning(mnemonic: u16) -> bool {
-    let shapes = [b'r', b'c', b's', b'n', b'f'];
-    let file = start(0, 1, 2);
-    for k in 0..5usize {
-        let i = record(mnemonic, shapes[k], 64, false);
-        if !steps(file, false, i, 10, file, false) {
-            return true;
-        }
-    }
-    has_unlike_meaning(mnemonic)
+    b"rcsnf"
+        .iter()
+        .any(|shape| means(record(mnemonic, *shape, 64, false)))
+        || has_unlike_meaning(mnemonic)
 }
 
 // How many mnemonics have a meaning.
 pub fn count_meanings() -> u64 {
-    let mut sum: u64 = 0;
-    for m in 0..400u16 {
-        if has_meaning(m) {
-            sum = std::num::wrapping_add_u64(sum, 1);
-        }
-    }
-    sum
+    (0..400).filter(|m| has_meaning(*m)).count() as u64
 }

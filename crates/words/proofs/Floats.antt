@@ -1,32 +1,13 @@
--- A float that is not itself is not a number.
+-- Which floats and which bits are a not-a-number.
 -- Assumes nothing.
 use mathlib.Core.Path.{◌≡◌, refl, sym, ◌∙◌}
-use mathlib.Core.Bool.{Bool, true, false, not, ◌&&◌, ◌||◌, beq}
-use Prim.Native.Nat.{ℕ, ◌*◌, ◌%◌, ◌<◌, ◌≤◌}
-use lib.Dec.{T, eqb, ltb}
-use lib.Ieee.{Float, nan, inf, fin, eq, is_nan, up, down, binary64, of_bits, nan_bits}
+use mathlib.Core.Bool.{true, not}
+use Prim.Native.Nat.{ℕ, ◌%◌, ◌<◌, ◌≤◌}
+use lib.Dec.{T, ltb}
+use lib.Ieee.{Float, nan, inf, fin, is_nan, binary64, of_bits, nan_bits}
 use lib.Ieee.Bits.{nan_bits_is, nan_bits_above}
-use borrow.Author.Tests.{eq-eqb, lt-ltb, le-ltb}
+use borrow.Author.Tests.{lt-ltb, le-ltb}
 use Rattle.laws.proofs.Never.{wrong}
-
-same : (s : Bool) → beq s s ≡ true
-same true = refl
-same false = refl
-
-finite : (s : Bool) (a : ℕ) → (eqb a a && (beq s s || eqb a 0)) ≡ true
-finite s a = rw (eq-eqb a a refl, same s)
-
-pub is_number : (x : Float) → eq x x ≡ true → T (not (is_nan x))
-unfolding eq is_nan
-is_number nan e = wrong e
-is_number (inf s) e = tt
-is_number (fin s m k) e = tt
-
-pub not-a-number : (x : Float) → eq x x ≡ false → x ≡ nan
-unfolding eq
-not-a-number nan e = refl
-not-a-number (inf s) e = wrong (sym e ∙ same s)
-not-a-number (fin s m k) e = wrong (sym e ∙ finite s (m * up k * down k))
 
 -- a not-a-number is the one that there is
 pub the_nan : (x : Float) → is_nan x ≡ true → nan ≡ x

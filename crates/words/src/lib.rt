@@ -23,10 +23,10 @@ fn mark_word(mark: Mark) -> u64
 fn float_word(x: f64) -> u64
     ensures { result ≡ to_bits binary64 x }
 {
-    if x == x {
-        f64::to_bits(x)
-    } else {
+    if x.is_nan() {
         0x7ff8_0000_0000_0000
+    } else {
+        x.to_bits()
     }
 }
 
@@ -50,13 +50,10 @@ fn value_word(o: Operand) -> u64
     ensures { result ≡ value_word o }
 {
     match o {
-        Operand::D(n) => n as u64,
-        Operand::Q(n) => n as u64,
-        Operand::S(n) => n as u64,
+        Operand::D(n) | Operand::Q(n) | Operand::S(n) => u64::from(n),
         Operand::Imm(v) => insn::signed::pattern_of(v),
         Operand::Float(x) => float_word(x),
-        Operand::Other => 0,
-        Operand::Absent => 0,
+        Operand::Other | Operand::Absent => 0,
     }
 }
 
@@ -64,20 +61,16 @@ fn value_word(o: Operand) -> u64
 pub fn record_words(i: Insn) -> [u64; 10]
     ensures { result ≡ record_words i }
 {
-    let first = i.first;
-    let second = i.second;
-    let third = i.third;
-    let mark = i.mark;
     [
-        i.mnemonic as u64,
-        mark_word(mark),
-        i.address as u64,
-        i.count as u64,
-        kind_word(first),
-        value_word(first),
-        kind_word(second),
-        value_word(second),
-        kind_word(third),
-        value_word(third),
+        u64::from(i.mnemonic),
+        mark_word(i.mark),
+        u64::from(i.address),
+        u64::from(i.count),
+        kind_word(i.first),
+        value_word(i.first),
+        kind_word(i.second),
+        value_word(i.second),
+        kind_word(i.third),
+        value_word(i.third),
     ]
 }

@@ -3,21 +3,9 @@ ghost use Rattle.std.specs.Prelude.{◌≡◌, ◌+◌, ◌<◌, eqb, get_or};
 ghost use Rattle.std.specs.Float.Ieee.{of_bits};
 ghost use Rattle.std.specs.Float.{binary64};
 ghost use Rattle.laws.specs.Choice.{choose};
-ghost use Rattle.words.specs.Records.{field_word, operand_word, record_of};
+ghost use Rattle.words.specs.Records.{operand_word, record_of};
 
 use insn::{Insn, Mark, Operand};
-
-fn word16(w: u64) -> u16
-    ensures { result ≡ field_word 16 w }
-{
-    if w < 0x1_0000 { w as u16 } else { 0xffff }
-}
-
-fn word8(w: u64) -> u8
-    ensures { result ≡ field_word 8 w }
-{
-    if w < 0x100 { w as u8 } else { 0xff }
-}
 
 fn mark_of(w: u64) -> Mark
     ensures { result ≡ choose (eqb w 2) Mark.T2 Mark.T1 }
@@ -30,37 +18,25 @@ fn float_of(w: u64) -> f64
     ensures { result ≡ of_bits binary64 w }
 {
     if 0x7ff0_0000_0000_0000 < w % 0x8000_0000_0000_0000 {
-        return 0.0 / 0.0;
+        return f64::NAN;
     }
     f64::from_bits(w)
 }
 
 // The operand of a kind and a value.
+#[tactic(auto, unfolding(crate::specs::Records::operand_word))]
 fn operand_of(kind: u64, value: u64) -> Operand
     ensures { result ≡ operand_word kind value }
 {
-    if kind == 0 {
-        return Operand::Absent;
+    match (kind, u8::try_from(value)) {
+        (0, _) => Operand::Absent,
+        (1, Ok(n)) => Operand::D(n),
+        (2, Ok(n)) => Operand::Q(n),
+        (3, Ok(n)) => Operand::S(n),
+        (4, _) => Operand::Imm(insn::signed::signed_of(value)),
+        (5, _) => Operand::Float(float_of(value)),
+        _ => Operand::Other,
     }
-    if kind == 4 {
-        return Operand::Imm(insn::signed::signed_of(value));
-    }
-    if kind == 5 {
-        return Operand::Float(float_of(value));
-    }
-    if 256 <= value {
-        return Operand::Other;
-    }
-    if kind == 1 {
-        return Operand::D(value as u8);
-    }
-    if kind == 2 {
-        return Operand::Q(value as u8);
-    }
-    if kind == 3 {
-        return Operand::S(value as u8);
-    }
-    Operand::Other
 }
 
 // The operand whose kind is word k, and whose value the next.
@@ -76,10 +52,10 @@ pub fn record_of(w: &[u64; 10]) -> Insn
     ensures { result ≡ record_of w.now }
 {
     Insn {
-        mnemonic: word16(w[0]),
+        mnemonic: u16::try_from(w[0]).unwrap_or(u16::MAX),
         mark: mark_of(w[1]),
         address: (w[2] % 0x1_0000_0000) as u32,
-        count: word8(w[3]),
+        count: u8::try_from(w[3]).unwrap_or(u8::MAX),
         first: operand_at(w, 4),
         second: operand_at(w, 6),
         third: operand_at(w, 8),

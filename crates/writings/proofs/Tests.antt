@@ -1,7 +1,7 @@
 -- What a comparison of whole numbers says.
 -- Assumes nothing.
 use mathlib.Core.Path.{◌≡◌, refl, ap}
-use mathlib.Core.Bool.{Bool, true, false}
+use mathlib.Core.Bool.{true}
 use lib.IntN.{ℤ, pos, negsuc}
 use borrow.Author.Tests.{eqb-true, eq-eqb}
 use Rattle.laws.proofs.Never.{wrong}
@@ -19,10 +19,3 @@ number_same v w e = rw (← e) (self v)
     self : (v : ℤ) → same_number v v ≡ true
     self (pos m) = eq-eqb m m refl
     self (negsuc m) = eq-eqb m m refl
-
-pub number-other : (v w : ℤ) → (v ≡ w → ⊥) → same_number v w ≡ false
-number-other v w n = go (same_number v w) refl
-  where
-    go : (b : Bool) → same_number v w ≡ b → b ≡ false
-    go true e = absurd (n (same_number_lem v w e))
-    go false e = refl

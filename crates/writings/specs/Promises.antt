@@ -1,17 +1,17 @@
 -- Promises beyond the contracts; proofs/Promises.antt proves each under its name.
 -- Assumes nothing.
-use Rattle.std.specs.Prelude.{◌≡◌}
-use Rattle.writings.specs.declared.Field.{Field}
-use Rattle.writings.specs.declared.WideField.{WideField}
-use Rattle.writings.specs.declared.Writing.{Writing}
-use Rattle.writings.specs.Answers.{writing_answer, field_answer, wide_field_answer}
+use Rattle.std.specs.Prelude.{◌≡◌, ℕ, Result}
+use Rattle.insn.specs.declared.Refusal.{Refusal}
+use Rattle.insn.specs.Promises.{AnswersApart}
+use Rattle.writings.specs.Answers.{writing_answer}
 
 -- an answer says which case it is
 abbrev pub WritingsApart : Type 0
-WritingsApart = (x y : Writing) → writing_answer x ≡ writing_answer y → x ≡ y
+WritingsApart = (x y : Result (ℕ × ℕ) Refusal) → writing_answer x ≡ writing_answer y → x ≡ y
 
+-- so does that about one place of a record, in 8 bits and in 16
 abbrev pub FieldsApart : Type 0
-FieldsApart = (x y : Field) → field_answer x ≡ field_answer y → x ≡ y
+FieldsApart = AnswersApart ℕ
 
 abbrev pub WideFieldsApart : Type 0
-WideFieldsApart = (x y : WideField) → wide_field_answer x ≡ wide_field_answer y → x ≡ y
+WideFieldsApart = AnswersApart ℕ

@@ -1,47 +1,31 @@
 use mathlib.Core.Path.{◌∙◌}
-use Rattle.amount_values.proofs.Amounts.{right-place, left-place, narrow-place, long-place, convert-place, narrow-none, long-none, convert-none, bits_below}
+use Rattle.tables.specs.declared.ShiftClass.TheVariants.{Right, Left, Narrow, Long, Convert}
+use Rattle.insn.specs.declared.Width.TheVariants.{B8, B64}
+use Rattle.amount_values.proofs.Amounts.{width-place, narrow-place, long-place, convert-none}
 use Rattle.amount_values.proofs.amount_place.Goals as goal
 
-pub counted_down-requires : goal.counted_down-requires
-counted_down-requires c = bits_below c.args.column c.requires.0
-
-pub counted_up-requires : goal.counted_up-requires
-counted_up-requires c = bits_below c.args.column c.requires.0
-
-pub returns-then-column-eq3 : goal.returns-then-column-eq3
-returns-then-column-eq3 c =
-    rw c.in-Narrow.is (narrow-none c.args.column c.args.k c.requires.0 c.requires.1 c.if-column-eq3.true)
-
-pub counted_down-requires-in-Narrow : goal.counted_down-requires-in-Narrow
-counted_down-requires-in-Narrow c = bits_below c.args.column c.requires.0
-
-pub returns-then-column-eq3-2 : goal.returns-then-column-eq3-2
-returns-then-column-eq3-2 c =
-    rw c.in-Long.is (long-none c.args.column c.args.k c.requires.0 c.requires.1 c.if-column-eq3-2.true)
-
-pub counted_up-requires-in-Long : goal.counted_up-requires-in-Long
-counted_up-requires-in-Long c = bits_below c.args.column c.requires.0
-
-pub returns-then-column-ne0 : goal.returns-then-column-ne0
-returns-then-column-ne0 c =
-    rw c.in-Convert.is (convert-none c.args.column c.args.k c.requires.0 c.requires.1 c.if-column-ne0.true)
-
 pub returns-in-Right : goal.returns-in-Right
-returns-in-Right c =
-    rw c.in-Right.is (c.counted_down.ensures ∙ right-place c.args.column c.args.k c.requires.0 c.requires.1)
+returns-in-Right c = rw c.in-Right.is (c.counted_down.ensures ∙ width-place Right _ _ c.requires)
 
 pub returns-in-Left : goal.returns-in-Left
-returns-in-Left c =
-    rw c.in-Left.is (c.counted_up.ensures ∙ left-place c.args.column c.args.k c.requires.0 c.requires.1)
+returns-in-Left c = rw c.in-Left.is (c.counted_up.ensures ∙ width-place Left _ _ c.requires)
 
-pub returns-else-column-eq3 : goal.returns-else-column-eq3
-returns-else-column-eq3 c =
-    rw c.in-Narrow.is (c.counted_down-in-Narrow.ensures ∙ narrow-place c.args.column c.args.k c.requires.0 c.requires.1 c.if-column-eq3.false)
+pub returns-in-B64 : goal.returns-in-B64
+returns-in-B64 c = rw (c.in-Narrow.is, c.in-B64.is) (width-place Narrow B64 _ c.requires)
 
-pub returns-else-column-eq3-2 : goal.returns-else-column-eq3-2
-returns-else-column-eq3-2 c =
-    rw c.in-Long.is (c.counted_up-in-Long.ensures ∙ long-place c.args.column c.args.k c.requires.0 c.requires.1 c.if-column-eq3-2.false)
+pub returns-in_default : goal.returns-in_default
+returns-in_default c =
+    rw c.in-Narrow.is (c.counted_down-in_default.ensures ∙ narrow-place _ _ c.requires c.in_default.not-B64)
 
-pub returns-else-column-ne0 : goal.returns-else-column-ne0
-returns-else-column-ne0 c =
-    rw c.in-Convert.is (c.counted_down-in-Convert.ensures ∙ convert-place c.args.column c.args.k c.requires.0 c.requires.1 c.if-column-ne0.false)
+pub returns-in-B64-width : goal.returns-in-B64-width
+returns-in-B64-width c = rw (c.in-Long.is, c.in-B64-width.is) (width-place Long B64 _ c.requires)
+
+pub returns-in_default-width : goal.returns-in_default-width
+returns-in_default-width c =
+    rw c.in-Long.is (c.counted_up-in_default-width.ensures ∙ long-place _ _ c.requires c.in_default-width.not-B64)
+
+pub returns-in-B8 : goal.returns-in-B8
+returns-in-B8 c = rw (c.in-Convert.is, c.in-B8.is) (c.counted_down-in-B8.ensures ∙ width-place Convert B8 _ c.requires)
+
+pub returns-in_default-width-2 : goal.returns-in_default-width-2
+returns-in_default-width-2 c = rw c.in-Convert.is (convert-none _ _ c.requires c.in_default-width-2.not-B8)

@@ -1,12 +1,16 @@
-use mathlib.Core.Path.{◌∙◌, ap}
-use Prim.Native.Nat.{ℕ, ◌*◌, ◌%◌, ◌^◌}
-use native.Mathlib.Omega.{arith}
+use Rattle.std.proofs.Common.{◌^◌, sym, arith}
+use native.Mathlib.Nat.{zero-mod}
 use Rattle.laws.specs.Signed.{modulo}
-use Rattle.arithmetic.proofs.Signs.{right-u}
+use Rattle.arithmetic.proofs.Numbers.{shr-out}
 use Rattle.double_lanes.proofs.kept.Goals as goal
 
-pub returns : goal.returns
+pub returns-then-k-lt64 : goal.returns-then-k-lt64
 unfolding modulo
-returns c =
+returns-then-k-lt64 c =
+    c.cut.ensures
+
+pub returns-else-k-lt64 : goal.returns-else-k-lt64
+unfolding modulo
+returns-else-k-lt64 c =
     let a = c.args in
-    c.cut.ensures ∙ ap (λ (p : ℕ). p % 2 ^ a.w) (c.right.ensures ∙ right-u (2 * a.w) a.x a.k (omega arith))
+    rw (shr-out a.x 64 a.k (omega arith) (omega arith)) (sym (zero-mod (2 ^ a.w.count)))

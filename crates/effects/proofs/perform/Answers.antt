@@ -1,70 +1,21 @@
-use native.Mathlib.Omega.{arith}
-use Rattle.effects.proofs.Held.{file-good, operation-sized}
-use Rattle.effects.proofs.Effects.{word-stored, quad-stored, word-marked, quad-marked}
+use borrow.Author.Rules.{rules}
+use Rattle.effects.proofs.Held.{operation-sized}
+use Rattle.effects.proofs.Effects.{word-stored, quad-stored, quad-marked}
+use Rattle.effects.specs.File.{Good}
 use Rattle.effects.proofs.perform.Goals as goal
 
-pub bounds-file-n : goal.bounds-file-n
-bounds-file-n c =
-    let u = c.requires.first.lower in omega arith
-
-pub bounds-file-m : goal.bounds-file-m
-bounds-file-m c =
-    let u = c.requires.second.lower in omega arith
-
-pub bounds-file-d : goal.bounds-file-d
-bounds-file-d c =
-    let u = c.requires.target.lower in omega arith
-
-pub bounds-file-n-2 : goal.bounds-file-n-2
-bounds-file-n-2 c =
-    let u = c.requires.first.lower in omega arith
-
-pub bounds-file-m-2 : goal.bounds-file-m-2
-bounds-file-m-2 c =
-    let u = c.requires.second.lower in omega arith
-
-pub bounds-after-d : goal.bounds-after-d
-bounds-after-d c =
-    let u = c.requires.target.lower in omega arith
-
-pub bounds-file-n-then-r : goal.bounds-file-n-then-r
-bounds-file-n-then-r c =
-    let u = c.requires.first.upper c.if-r.true in omega arith
-
-pub bounds-file-m-then-r : goal.bounds-file-m-then-r
-bounds-file-m-then-r c =
-    let u = c.requires.second.upper c.if-r.true in omega arith
-
-pub bounds-file-d-then-r : goal.bounds-file-d-then-r
-bounds-file-d-then-r c =
-    let u = c.requires.target.upper c.if-r.true in omega arith
-
-pub bounds-file-n-then-r-2 : goal.bounds-file-n-then-r-2
-bounds-file-n-then-r-2 c =
-    let u = c.requires.first.upper c.if-r.true in omega arith
-
-pub bounds-file-m-then-r-2 : goal.bounds-file-m-then-r-2
-bounds-file-m-then-r-2 c =
-    let u = c.requires.second.upper c.if-r.true in omega arith
-
-pub bounds-after-d-then-r : goal.bounds-after-d-then-r
-bounds-after-d-then-r c =
-    let u = c.requires.target.upper c.if-r.true in omega arith
-
-pub returns-then-r : goal.returns-then-r
-returns-then-r c =
-    let q = c.if-r.true in
+pub returns-then-r-clause-file : goal.returns-then-r-clause-file
+returns-then-r-clause-file c =
     let a = c.args in
-    let g = file-good a.file _ c.well_formed.0 in
-    record {
-      file = quad-stored a.op a.file a.r _ c.value.ensures _ c.value-then-r.ensures q (operation-sized a.op _ c.well_formed.1.1.0) g;
-      mark = quad-marked a.op a.r a.file a.mark c.mark_after-low.ensures c.mark_after-high.ensures q g;
-    }
+    let g : Good a.before.file = record { size = search rules; small = search rules } in
+    quad-stored a.op a.before.file a.r _ c.value.ensures _ c.value-then-r.ensures c.if-r.true (operation-sized a.op _ c.well_formed.1.0) g
 
-pub returns : goal.returns
-returns c =
+pub returns-then-r-clause-mark : goal.returns-then-r-clause-mark
+returns-then-r-clause-mark c =
     let a = c.args in
-    record {
-      file = word-stored a.op a.file a.r _ c.value.ensures c.if-r.false;
-      mark = word-marked a.op a.r a.file a.mark c.mark_after-low.ensures c.if-r.false;
-    }
+    let g : Good a.before.file = record { size = search rules; small = search rules } in
+    quad-marked a.op a.r a.before.file a.before.mark c.mark_after.ensures c.mark_after-then-r.ensures c.if-r.true g
+
+pub returns-else-r-clause-file : goal.returns-else-r-clause-file
+returns-else-r-clause-file c =
+    word-stored c.args.op c.args.before.file c.args.r _ c.value.ensures c.if-r.false

@@ -4,4 +4,4 @@ use Rattle.emit.proofs.put_constant.Goals as goal
 
 pub returns : goal.returns
 unfolding pairs_by pair_table
-returns c = put_then _ _ c.put_half-next.ensures c.put_half.ensures
+returns c = put_then _ _ c.put_half.ensures c.put_half-2.ensures

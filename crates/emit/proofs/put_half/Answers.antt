@@ -1,6 +1,6 @@
 use mathlib.Core.Path.{sym, ◌∙◌}
 use native.Mathlib.Omega.{arith}
-use Rattle.laws.proofs.Placed.{widen}
+use Rattle.text.proofs.Writes.{widen}
 use Rattle.recipes.specs.Pairs.{recipe_pairs}
 use Rattle.recipes.proofs.Places.{double-register, place-writes, one-leaves, leaves-read, one_of}
 use Rattle.emit.proofs.Puts.{put_as, put_then}
@@ -23,7 +23,7 @@ pub returns-in-Joined : goal.returns-in-Joined
 unfolding recipe_pairs
 returns-in-Joined c =
     let e = sym c.recipe_of-half.ensures ∙ c.in-Joined.is in
-    let low = c.put_word-one.ensures in
-    let high = c.put_word-two.ensures in
+    let low = c.put_word-in-Joined.ensures in
+    let high = c.put_word-in-Joined-2.ensures in
     let mask = c.put_joined.ensures in
     rw e (put_then _ _ low (put_then _ _ high mask))

@@ -4,4 +4,4 @@ use Rattle.emit.proofs.put_picked.Goals as goal
 
 pub returns : goal.returns
 unfolding pairs_by pair_table
-returns c = put_then _ _ (rw c.copy.ensures at c.put-one.ensures) (put_then _ _ (rw c.pick.ensures at c.put-two.ensures) (rw c.copy-2.ensures at c.put.ensures))
+returns c = put_then _ _ (rw c.copy.ensures at c.put.ensures) (put_then _ _ (rw c.pick.ensures at c.put-2.ensures) (rw c.copy-2.ensures at c.put-3.ensures))

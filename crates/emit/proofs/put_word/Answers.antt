@@ -9,5 +9,5 @@ pub returns : goal.returns
 unfolding word_pairs
 returns c =
     let b = c.args.v % 256 in
-    let one = put_as _ _ (standing-writes (double-register c.args.r c.requires.1) (set-standing b (omega arith))) c.put_place-one.ensures in
-    put_then _ _ one (put_then _ _ c.put_byte-two.ensures (put_then _ _ c.put_byte-three.ensures c.put_byte.ensures))
+    let one = put_as _ _ (standing-writes (double-register c.args.r c.requires.1) (set-standing b (omega arith))) c.put_place.ensures in
+    put_then _ _ one (put_then _ _ c.put_byte.ensures (put_then _ _ c.put_byte-2.ensures c.put_byte-3.ensures))

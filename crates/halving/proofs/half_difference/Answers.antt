@@ -1,4 +1,3 @@
-use native.Mathlib.Omega.{arith}
 use Rattle.halving.specs.Half.{half}
 use Rattle.halving.proofs.Halving.{half-difference}
 use Rattle.halving.proofs.half_difference.Goals as goal
@@ -7,6 +6,8 @@ pub returns : goal.returns
 unfolding half
 returns c =
     let a = c.args in
-    half-difference a.s a.w a.x a.y (omega arith) (omega arith) (omega arith) c.right.result c.right-2.result
-    c.right.ensures c.right-2.ensures
-    c.difference.result c.difference-2.result c.difference.ensures c.difference-2.ensures
+    let l = a.l in
+    let x = rw (c.first.ensures.bits, c.first.ensures.x) at c.right.ensures in
+    let y = rw (c.second.ensures.bits, c.second.ensures.x) at c.right-2.ensures in
+    half-difference a.s l.bits.count l.x l.y l.bits.positive l.x_fits l.y_fits c.right.result c.right-2.result x y
+    c.difference-halves.result c.difference.result c.difference-halves.ensures c.difference.ensures

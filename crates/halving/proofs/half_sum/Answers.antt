@@ -7,6 +7,8 @@ pub returns : goal.returns
 unfolding half
 returns c =
     let a = c.args in
-    half-sum a.s a.w a.x a.y (omega arith) (omega arith) (omega arith) c.right.result c.right-2.result
-    c.right.ensures c.right-2.ensures
-    a.c c.sum.result c.sum-2.result (omega arith) c.sum.ensures c.sum-2.ensures
+    let l = a.l in
+    let x = rw (c.first.ensures.bits, c.first.ensures.x) at c.right.ensures in
+    let y = rw (c.second.ensures.bits, c.second.ensures.x) at c.right-2.ensures in
+    half-sum a.s l.bits.count l.x l.y l.bits.positive l.x_fits l.y_fits c.right.result c.right-2.result x y
+    a.c c.sum-halves.result c.sum.result (omega arith) c.sum-halves.ensures c.sum.ensures

@@ -8,13 +8,6 @@ use Rattle.halving.proofs.halved.Goals as goal
 pub returns-in-Hadd : goal.returns-in-Hadd
 returns-in-Hadd c =
     let a = c.args in
+    let w = a.l.bits.count in
     rw c.in-Hadd.is
-    (c.half_sum.ensures ∙ ap (λ (z : ℤ). modulo a.w (half z)) (+ℤ_idr (read_as a.s a.w a.x +ℤ read_as a.s a.w a.y)))
-
-pub returns-in-Rhadd : goal.returns-in-Rhadd
-returns-in-Rhadd c =
-    rw c.in-Rhadd.is c.half_sum-in-Rhadd.ensures
-
-pub returns-in-Hsub : goal.returns-in-Hsub
-returns-in-Hsub c =
-    rw c.in-Hsub.is c.half_difference.ensures
+    (c.half_sum.ensures ∙ ap (λ (z : ℤ). modulo w (half z)) (+ℤ_idr (read_as a.s w a.l.x +ℤ read_as a.s w a.l.y)))

@@ -1,21 +1,22 @@
 use mathlib.Core.Path.{◌∙◌}
+use native.Mathlib.Omega.{arith}
 use Rattle.homes.proofs.Places.{same-below, same-between, same_above, vqshl-signed, vqshl-unsigned}
 use Rattle.homes.proofs.home_of.Goals as goal
+use Rattle.homes.proofs.home_of.Goals.{in_default-via-then-m-lt31, in_default-via-in-31-to-34+else-number, in_default-via-else-m-lt31+else-m-lt35+then-m-lt121, in_default-via-in-121-to-124+else-number-2, in_default-via-else-m-lt31+else-m-lt35+else-m-lt121+else-m-lt125}
 
-pub returns-then-not-number : goal.returns-then-not-number
-returns-then-not-number c = rw c.if-not-number.true c.plain_home.ensures
+pub returns-in-31-to-34 : goal.returns-in-31-to-34
+returns-in-31-to-34 c = rw c.if-number.true (vqshl-signed _ (omega arith) (omega arith))
 
-pub returns-then-m-lt31 : goal.returns-then-m-lt31
-returns-then-m-lt31 c = rw c.if-not-number.false (c.plain_home-then-m-lt31.ensures ∙ same-below _ c.if-m-lt31.true)
+pub returns-in-121-to-124 : goal.returns-in-121-to-124
+returns-in-121-to-124 c = rw c.if-number-2.true (vqshl-unsigned _ (omega arith) (omega arith))
 
-pub returns-then-m-lt35 : goal.returns-then-m-lt35
-returns-then-m-lt35 c = rw c.if-not-number.false (vqshl-signed _ c.if-m-lt31.false c.if-m-lt35.true)
-
-pub returns-then-m-lt121 : goal.returns-then-m-lt121
-returns-then-m-lt121 c = rw c.if-not-number.false (c.plain_home-then-m-lt121.ensures ∙ same-between _ c.if-m-lt35.false c.if-m-lt121.true)
-
-pub returns-then-m-lt125 : goal.returns-then-m-lt125
-returns-then-m-lt125 c = rw c.if-not-number.false (vqshl-unsigned _ c.if-m-lt121.false c.if-m-lt125.true)
-
-pub returns : goal.returns
-returns c = rw c.if-not-number.false (c.plain_home-2.ensures ∙ same_above _ c.if-m-lt125.false)
+pub returns-in_default : goal.returns-in_default
+returns-in_default c =
+    c.plain_home.ensures
+    ∙ elim c.in_default.branch [
+      | in_default-via-then-m-lt31 w ↦ same-below c.args.number c.args.m (omega arith)
+      | in_default-via-in-31-to-34+else-number w ↦ rw w.if-number.false
+      | in_default-via-else-m-lt31+else-m-lt35+then-m-lt121 w ↦ same-between c.args.number c.args.m (omega arith) (omega arith)
+      | in_default-via-in-121-to-124+else-number-2 w ↦ rw w.if-number-2.false
+      | in_default-via-else-m-lt31+else-m-lt35+else-m-lt121+else-m-lt125 w ↦ same_above c.args.number c.args.m (omega arith)
+    ]

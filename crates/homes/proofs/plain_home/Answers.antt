@@ -8,25 +8,25 @@ use Rattle.homes.proofs.plain_home.Goals as goal
 pub returns-then-m-ge-COUNT : goal.returns-then-m-ge-COUNT
 returns-then-m-ge-COUNT c = no-home false _ c.if-m-ge-COUNT.true
 
-pub returns-then-m-lt-SHIFT : goal.returns-then-m-lt-SHIFT
+pub returns-in-0-to-172 : goal.returns-in-0-to-172
 unfolding values homes
-returns-then-m-lt-SHIFT c = same3-at _ c.if-m-lt-SHIFT.true
+returns-in-0-to-172 c = same3-at _ (omega arith)
 
-pub returns-then-m-lt-VMOVL : goal.returns-then-m-lt-VMOVL
+pub returns-in-173-to-254 : goal.returns-in-173-to-254
 unfolding values homes
-returns-then-m-lt-VMOVL c = shift-at _ c.if-m-lt-SHIFT.false c.if-m-lt-VMOVL.true
+returns-in-173-to-254 c = shift-at _ (omega arith) (omega arith)
 
-pub returns-then-m-lt-MODIMM : goal.returns-then-m-lt-MODIMM
+pub returns-in-255-to-260 : goal.returns-in-255-to-260
 unfolding values homes
-returns-then-m-lt-MODIMM c = vmovl-at _ c.if-m-lt-VMOVL.false c.if-m-lt-MODIMM.true
+returns-in-255-to-260 c = vmovl-at _ (omega arith) (omega arith)
 
-pub returns-then-m-lt-DIFF : goal.returns-then-m-lt-DIFF
+pub returns-in-261-to-271 : goal.returns-in-261-to-271
 unfolding values homes
-returns-then-m-lt-DIFF c = modimm-at _ c.if-m-lt-MODIMM.false c.if-m-lt-DIFF.true
+returns-in-261-to-271 c = modimm-at _ (omega arith) (omega arith)
 
-pub returns-then-m-lt-VMOV : goal.returns-then-m-lt-VMOV
+pub returns-in-272-to-344 : goal.returns-in-272-to-344
 unfolding values homes
-returns-then-m-lt-VMOV c = diff-at _ c.if-m-lt-DIFF.false c.if-m-lt-VMOV.true
+returns-in-272-to-344 c = diff-at _ (omega arith) (omega arith)
 
-pub returns : goal.returns
-returns c = vmov-at _ c.if-m-lt-VMOV.false (omega arith)
+pub returns-in_default : goal.returns-in_default
+returns-in_default c = vmov-at _ (omega arith) (omega arith)

@@ -1,3 +1,4 @@
+use Prim.Native.Nat.{◌<◌}
 use mathlib.Core.Path.{ap, ◌∙◌}
 use native.Mathlib.Omega.{arith}
 use mir.Facts.{to_z-of_z}
@@ -7,22 +8,20 @@ use Rattle.immediates.specs.Modified.{constant_at, element, operand_in}
 use Rattle.immediates.proofs.Expansions.{no-op, no_last, either}
 use Rattle.immediates.proofs.modimm_operand.Goals as goal
 
-pub returns-then-op-eq0 : goal.returns-then-op-eq0
-returns-then-op-eq0 c = rw c.if-op-eq0.true c.plain_operand.ensures
+pub returns-in-1-0-to-13 : goal.returns-in-1-0-to-13
+returns-in-1-0-to-13 c =
+    let below : c.args.cmode < 14 = omega arith in rw (c.in-1-0-to-13.is-0, ← either _ below) c.plain_operand-in-1-0-to-13.ensures
 
-pub returns-then-cmode-lt14 : goal.returns-then-cmode-lt14
-returns-then-cmode-lt14 c = rw (c.if-op-eq1.true, ← either _ c.if-cmode-lt14.true) c.plain_operand-then-cmode-lt14.ensures
-
-pub returns-then-cmode-eq14 : goal.returns-then-cmode-eq14
+pub returns-in-1-eq14 : goal.returns-in-1-eq14
 unfolding constant_at element operand_in
-returns-then-cmode-eq14 c =
+returns-in-1-eq14 c =
     ap Imm (to_z-of_z {w = w64} {z = c.signed_of.result} (record { sfits = c.signed_of.type_inv }))
-    ∙ rw (c.if-op-eq1.true, c.if-cmode-eq14.true, c.signed_of.ensures, c.bytes_of.ensures)
+    ∙ rw (c.in-1-eq14.is-0, c.in-1-eq14.is-1, c.signed_of.ensures, c.bytes_of.ensures)
 
-pub returns-else-cmode-eq14 : goal.returns-else-cmode-eq14
+pub returns-in_default : goal.returns-in_default
 unfolding operand_in
-returns-else-cmode-eq14 c = rw (c.if-op-eq1.true, no_last c.args.cmode (omega arith))
+returns-in_default c = rw (c.in_default.is-0, no_last c.args.cmode (omega arith))
 
-pub returns-else-op-eq1 : goal.returns-else-op-eq1
+pub returns-in_default-2 : goal.returns-in_default-2
 unfolding operand_in
-returns-else-op-eq1 c = rw (no-op c.args.op c.args.cmode (omega arith))
+returns-in_default-2 c = rw (no-op c.args.op c.args.cmode (omega arith))

@@ -1,17 +1,16 @@
-use mathlib.Core.Path.{sym, ap, ◌∙◌}
+use mathlib.Core.Path.{sym}
 use Prim.Native.Nat.{◌≤◌}
 use native.Mathlib.Omega.{arith}
 use lib.ListN.{length}
 use lib.Seq.{length-take-le}
 use Rattle.listing.proofs.Whole.{length-fits}
-use Rattle.listing.specs.Answers.{listed_answer}
 use Rattle.lister.proofs.main.Goals as goal
 
 pub slice_bounds-out-end : goal.slice_bounds-out-end
 slice_bounds-out-end c =
-    omega (arith, length-fits _ _ _ (sym (ap listed_answer c.in-Length.is) ∙ c.list.ensures.answer), c.list.auto.out)
+    omega (arith, length-fits _ _ _ c.in-Ok.ensures.answer, c.list.auto.out)
 
 pub slice_bounds-write_all-end : goal.slice_bounds-write_all-end
 slice_bounds-write_all-end c =
-    let fits : c.in-Length.k ≤ length c.list.new.out = omega (arith, length-fits _ _ _ (sym (ap listed_answer c.in-Length.is) ∙ c.list.ensures.answer), c.list.auto.out) in
+    let fits : c.in-Ok.k ≤ length c.list.new.out = omega (arith, length-fits _ _ _ c.in-Ok.ensures.answer, c.list.auto.out) in
     sym (length-take-le _ _ fits)

@@ -1,8 +1,5 @@
-use Rattle.std.proofs.Common.{◌≡◌, ◌-◌, ◌≤◌, length}
+use Rattle.std.proofs.Common.{◌≡◌, length}
 use Rattle.listing_test.proofs.repeated.Given as goal
 
 abbrev pub invariant-loop-i : goal.invariant-loop-i
-invariant-loop-i l = (65540 ≡ length l.bytes) × (l.i ≤ 65540)
-
-abbrev pub decreases-loop-i : goal.decreases-loop-i
-decreases-loop-i l = 65540 - l.i
+invariant-loop-i l = 65540 ≡ length l.bytes

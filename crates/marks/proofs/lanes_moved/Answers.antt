@@ -24,10 +24,6 @@ quiet-other (Constant op p) quiet = tt
 other : (x : Operation) → OthersQuiet x
 other = by_kind OthersQuiet (λ op s w k n m. absurd (k op s refl)) quiet-other
 
-pub returns-in-Saturating : goal.returns-in-Saturating
-returns-in-Saturating c =
-    rw c.in-Saturating.is c.some_moved.ensures
-
 pub returns-in_default : goal.returns-in_default
 returns-in_default c =
     let a = c.args in

@@ -1,7 +1,15 @@
+use Rattle.fields.specs.Registers.{vec_of}
+use Rattle.std.proofs.Common.{rules}
 use Rattle.readings.proofs.register.Goals as goal
 
-pub returns-then-quad : goal.returns-then-quad
-returns-then-quad c = rw c.if-quad.true
+pub returns-in-true-eq0 : goal.returns-in-true-eq0
+unfolding vec_of
+returns-in-true-eq0 c = search rules
 
-pub returns-else-quad : goal.returns-else-quad
-returns-else-quad c = rw c.if-quad.false
+pub returns-in-true-default : goal.returns-in-true-default
+unfolding vec_of
+returns-in-true-default c = search rules
+
+pub returns-in-false-default : goal.returns-in-false-default
+unfolding vec_of
+returns-in-false-default c = search rules

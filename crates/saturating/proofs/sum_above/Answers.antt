@@ -2,17 +2,17 @@ use native.Mathlib.Omega.{arith}
 use Rattle.saturating.proofs.Tests.{sum-above-x, sum-above-y, sum-above}
 use Rattle.saturating.proofs.sum_above.Goals as goal
 
-pub returns-then-t-x : goal.returns-then-t-x
-returns-then-t-x c =
-    let a = c.args in
-    sum-above-x a.s a.w a.x a.y c.highest-t.result (omega arith) (omega arith) (omega arith) c.highest-t.ensures (omega arith)
+pub returns-then-t-l : goal.returns-then-t-l
+returns-then-t-l c =
+    let l = c.args.l in
+    sum-above-x c.args.s l.bits.count l.x l.y c.highest-t.result l.bits.positive l.x_fits l.y_fits c.highest-t.ensures (omega arith)
 
-pub returns-then-t-y : goal.returns-then-t-y
-returns-then-t-y c =
-    let a = c.args in
-    sum-above-y a.s a.w a.x a.y c.highest-t.result (omega arith) (omega arith) (omega arith) c.highest-t.ensures (omega arith)
+pub returns-then-t-l-2 : goal.returns-then-t-l-2
+returns-then-t-l-2 c =
+    let l = c.args.l in
+    sum-above-y c.args.s l.bits.count l.x l.y c.highest-t.result l.bits.positive l.x_fits l.y_fits c.highest-t.ensures (omega arith)
 
 pub returns : goal.returns
 returns c =
-    let a = c.args in
-    sum-above a.s a.w a.x a.y c.highest-t.result (omega arith) (omega arith) (omega arith) c.highest-t.ensures (omega arith) (omega arith)
+    let l = c.args.l in
+    sum-above c.args.s l.bits.count l.x l.y c.highest-t.result l.bits.positive l.x_fits l.y_fits c.highest-t.ensures (omega arith) (omega arith)

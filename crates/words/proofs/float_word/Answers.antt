@@ -1,10 +1,8 @@
+use mathlib.Core.Path.{sym}
 use lib.Ieee.{to_bits}
-use Rattle.words.proofs.Floats.{is_number, not-a-number}
+use Rattle.words.proofs.Floats.{the_nan}
 use Rattle.words.proofs.float_word.Goals as goal
 
-pub float_to_bits-result : goal.float_to_bits-result
-float_to_bits-result c = is_number _ c.if-x.true
-
-pub returns-else-x : goal.returns-else-x
+pub returns-then-is_nan : goal.returns-then-is_nan
 unfolding to_bits
-returns-else-x c = rw (not-a-number _ c.if-x.false)
+returns-then-is_nan c = rw (← the_nan _ (sym c.if-is_nan.ensures.value))

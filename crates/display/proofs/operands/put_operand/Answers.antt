@@ -1,7 +1,7 @@
 use mathlib.Core.Path.{sym, ◌∙◌}
 use native.Mathlib.Omega.{arith}
 use Rattle.display.proofs.Registers.{register-text}
-use Rattle.laws.proofs.Placed.{widen}
+use Rattle.text.proofs.Writes.{widen}
 use Rattle.display.proofs.operands.put_operand.Goals as goal
 
 pub returns-then-is_register : goal.returns-then-is_register
@@ -14,6 +14,6 @@ pub put_value-requires : goal.put_value-requires
 put_value-requires c =
     record { at_bound = omega arith; o_value = sym c.is_register.ensures ∙ c.if-is_register.false }
 
-pub returns : goal.returns
-returns c =
+pub returns-else-is_register : goal.returns-else-is_register
+returns-else-is_register c =
     c.put_value.ensures

@@ -2,17 +2,33 @@ use mathlib.Core.Path.{◌≡◌, ◌∙◌}
 use Prim.Native.Nat.{◌+◌, ◌*◌, ◌/◌, ◌%◌}
 use native.Mathlib.Nat.{div-one}
 use native.Mathlib.Omega.{arith}
+use borrow.Author.Rules.{rules}
+use Rattle.laws.specs.Answer.{refused}
+use Rattle.insn.specs.Answers.{answer}
+use Rattle.insn.specs.Refusals.{number}
+use Rattle.register_tables.specs.Same3.{same3}
 use Rattle.register_tables.proofs.Known.{same3-known}
-use Rattle.read_registers.specs.Same3.{same3_reading}
+use Rattle.tables.proofs.Read.{blank_cell, full_cell}
+use Rattle.read_registers.specs.Same3.{same3_of, same3_reading}
 use Rattle.read_registers.proofs.same3.decode_same3.Goals as goal
+
+pub returns-in_err-mnemonic : goal.returns-in_err-mnemonic
+unfolding same3_of same3_reading
+returns-in_err-mnemonic c =
+    let a = c.args in
+    let r = a.hw1 / 4096 % 2 * 32 + a.hw2 / 256 % 16 * 2 + a.hw2 / 16 % 2 in
+    let s = a.hw1 / 16 % 4 in
+    let blank = blank_cell same3 4 r s (omega arith) (same3-known r s (omega arith) (omega arith)) c.cell.result _ c.cell.ensures.number c.in_err-mnemonic.ensures.value in
+    let k : answer c.from_residual.result ≡ refused (number c.in_err-mnemonic.field-0.0) = search rules in
+    rw (k, blank.1, blank.0)
 
 pub returns : goal.returns
 unfolding same3_reading
 returns c =
     let a = c.args in
-    let cell = a.hw1 / 4096 % 2 * 128 + a.hw2 / 256 % 16 * 8 + a.hw2 / 16 % 2 * 4 + a.hw1 / 16 % 4 in
     let r = a.hw1 / 4096 % 2 * 32 + a.hw2 / 256 % 16 * 2 + a.hw2 / 16 % 2 in
-    let row : cell / 4 ≡ r = omega arith in
-    let column : cell % 4 ≡ a.hw1 / 16 % 4 = omega arith in
+    let s = a.hw1 / 16 % 4 in
+    let known = same3-known r s (omega arith) (omega arith) in
+    let full = full_cell same3 4 r s (omega arith) known c.cell.result _ c.cell.ensures.number c.cell.ensures.named c.in_ok-mnemonic.ensures.value in
     c.with_registers.ensures
-    ∙ rw (c.cell.ensures, row, column, same3-known r (a.hw1 / 16 % 4) (omega arith) (omega arith), c.dnum.ensures, c.dnum-2.ensures, c.dnum-3.ensures, div-one, div-one)
+    ∙ rw (← full.1, known, c.dnum.ensures, c.dnum-2.ensures, c.dnum-3.ensures, div-one, div-one)

@@ -10,19 +10,19 @@ pub returns-in-2 : goal.returns-in-2
 unfolding pairs_by pair_table table
 returns-in-2 c =
     let k = c.in-2.is in
-    rw (k, (add-known _ (kept_at _ 2 c.requires.0 k).width).numbered)
+    rw (k, (add-known _ (kept_at _ 2 c.args.s.kept k).width).numbered)
 
 pub returns-in-3 : goal.returns-in-3
 unfolding pairs_by pair_table table
 returns-in-3 c =
     let k = c.in-3.is in
-    rw (k, (sub-known _ (kept_at _ 3 c.requires.0 k).width).numbered)
+    rw (k, (sub-known _ (kept_at _ 3 c.args.s.kept k).width).numbered)
 
 pub returns-in_default : goal.returns-in_default
 unfolding pairs_by pair_table table
 returns-in_default c =
-    let k : c.args.s.kind ≡ 4 = omega arith in
-    rw (k, (mul-known _ (kept_at _ 4 c.requires.0 k).width).numbered)
+    let k : c.args.s.step.kind ≡ 4 = omega arith in
+    rw (k, (mul-known _ (kept_at _ 4 c.args.s.kept k).width).numbered)
 
 pub returns-in-5 : goal.returns-in-5
 unfolding pairs_by pair_table table
@@ -35,5 +35,5 @@ returns-in-6 c = rw (c.in-6.is, orr-known.numbered)
 pub returns-in_default-k : goal.returns-in_default-k
 unfolding pairs_by pair_table table
 returns-in_default-k c =
-    let k : c.args.s.kind ≡ 7 = omega arith in
+    let k : c.args.s.step.kind ≡ 7 = omega arith in
     rw (k, eor-known.numbered)

@@ -3,18 +3,15 @@ use mathlib.Core.Bool.{Bool}
 use Rattle.steps.proofs.Filling.{breaks-rule, by_reads, keeps-rule}
 use Rattle.steps.proofs.faults.step_fault.Goals as goal
 
-pub returns-then-not-keeps_rules : goal.returns-then-not-keeps_rules
-returns-then-not-keeps_rules c = λ i. sym (breaks-rule _ i _ (sym c.keeps_rules.ensures ∙ c.if-not-keeps_rules.true))
+pub returns-in_default-clause-fault : goal.returns-in_default-clause-fault
+returns-in_default-clause-fault c = λ i. sym (breaks-rule _ i _ c.in_default.ensures)
 
-pub reads_within-requires : goal.reads_within-requires
-reads_within-requires c = sym c.keeps_rules.ensures ∙ c.if-not-keeps_rules.false
+pub returns-then-not-reads_within-clause-fault : goal.returns-then-not-reads_within-clause-fault
+returns-then-not-reads_within-clause-fault c =
+    let s = c.in-Some.s in
+    λ i. rw (← c.in-Some.ensures) (sym (keeps-rule _ i _ s.kept ∙ ap (λ (x : Bool). by_reads x i) (sym c.reads_within.ensures ∙ c.if-not-reads_within.true)))
 
-pub returns-then-not-reads_within : goal.returns-then-not-reads_within
-returns-then-not-reads_within c =
-    let k = sym c.keeps_rules.ensures ∙ c.if-not-keeps_rules.false in
-    λ i. sym (keeps-rule _ i _ k ∙ ap (λ (x : Bool). by_reads x i) (sym c.reads_within.ensures ∙ c.if-not-reads_within.true))
-
-pub returns : goal.returns
-returns c =
-    let k = sym c.keeps_rules.ensures ∙ c.if-not-keeps_rules.false in
-    λ i. sym (keeps-rule _ i _ k ∙ ap (λ (x : Bool). by_reads x i) (sym c.reads_within.ensures ∙ c.if-not-reads_within.false))
+pub returns-clause-fault : goal.returns-clause-fault
+returns-clause-fault c =
+    let s = c.in-Some.s in
+    λ i. rw (← c.in-Some.ensures) (sym (keeps-rule _ i _ s.kept ∙ ap (λ (x : Bool). by_reads x i) (sym c.reads_within.ensures ∙ c.if-not-reads_within.false)))

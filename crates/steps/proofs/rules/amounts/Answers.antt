@@ -18,4 +18,4 @@ unfolding table
 returns-then-kind-eq10 c = rw c.if-kind-eq10.true (ap (λ (n : ℕ). n + 1) (mod-eq_of_lt (omega (arith, pow_mono {i = c.args.width} {j = 3} (omega arith)))) ∙ add-one _)
 
 pub returns-else-kind-eq10 : goal.returns-else-kind-eq10
-returns-else-kind-eq10 c = rw (no-amount (bits_at c.args.width) c.args.kind (omega arith) c.if-kind-eq9.false c.if-kind-eq10.false)
+returns-else-kind-eq10 c = rw (no-amount (bits_at c.args.width) c.args.kind c.if-kind-eq9.false c.if-kind-eq10.false)

@@ -11,4 +11,4 @@ unfolding table
 returns-then-kind-eq0 c = rw c.if-kind-eq0.true (sym (lt-ltb c.args.v (2 ^ 64) (omega arith)))
 
 pub returns-else-kind-eq0 : goal.returns-else-kind-eq0
-returns-else-kind-eq0 c = rw (no_word c.args.kind (omega arith) c.if-kind-eq0.false) (sym (fits_below unused c.args.v))
+returns-else-kind-eq0 c = rw (no_word c.args.kind c.if-kind-eq0.false) (sym (fits_below unused c.args.v))
