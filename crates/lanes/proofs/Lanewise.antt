@@ -47,6 +47,10 @@ lane_above w (suc j) i a b h =
     ap (λ (k : ℕ). lane_at w k (a + 2 ^ (w * suc j) * b)) (suc-add j i) ∙ at_suc w (j + i) (a + 2 ^ (w * suc j) * b)
     ∙ ap (lane_at w (j + i)) (step-div w j a b) ∙ lane_above w j i (a / 2 ^ w) b (step-lt w j a h)
 
+-- what is the same gives the same
+pub same-result : (f : ℕ → ℕ → ℕ → ℕ) {d e n o m p : ℕ} → d ≡ e → n ≡ o → m ≡ p → f d n m ≡ f e o p
+same-result f a b c = rw (a, b, c)
+
 module _ (f : ℕ → ℕ → ℕ → ℕ) (wd wn wm : ℕ) where
   -- lanes on both sides of a lane boundary are taken apart there
   pub split : (j k a b c d e g : ℕ) → a < 2 ^ (wd * j) → c < 2 ^ (wn * j) → e < 2 ^ (wm * j)

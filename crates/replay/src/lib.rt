@@ -1,7 +1,7 @@
 // Lines of a replayed list, and the counts that a test prints.
 #![tactic(auto)]
 
-ghost use Rattle.std.specs.Prelude.{◌≡◌, ◌%◌, ◌<◌, eqb};
+ghost use Rattle.std.specs.Prelude.{◌≡◌, ◌%◌, ◌<◌, drop, eqb};
 ghost use Rattle.std.specs.Iterator.{at_most};
 ghost use Rattle.replay.specs.Lines.{outcome_number, number_at, FileAt, record_in, digit_value};
 
@@ -83,9 +83,9 @@ pub fn number_of(outcome: Result<(), Refusal>) -> u8
 // comes as no and is left as yes.
 #[derive(Clone, Copy, Default)]
 pub struct Tally {
-    lines: u64,
-    wrong: u64,
-    turned: u64,
+    pub lines: u64,
+    pub wrong: u64,
+    pub turned: u64,
 }
 
 impl Tally {
@@ -116,11 +116,18 @@ pub fn digit(c: u8) -> u64
     ((c % 16 + 9) % 16) as u64
 }
 
+// What is left of the line from a place on.
+fn rest(line: &[u8], at: usize) -> &[u8]
+    ensures { result.now ≡ drop at line.now }
+{
+    if at < line.len() { &line[at..] } else { &[] }
+}
+
 // The number of n hexadecimal digits from a place of the line on; places past its end add nothing.
 pub fn field(line: &[u8], at: usize, n: usize) -> u64
     ensures { result ≡ number_at line.now at n }
 {
-    line.iter().skip(at).take(n).fold(0, |value, c| value % 0x1000_0000_0000_0000 * 16 + digit(*c))
+    rest(line, at).iter().take(n).fold(0, |value, c| value % 0x1000_0000_0000_0000 * 16 + digit(*c))
 }
 
 // The halfword of 4 digits at a place of the line.

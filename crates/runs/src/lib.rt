@@ -1,7 +1,7 @@
 // A run of pairs on a lent register file and mark, with a budget of steps.
 #![tactic(auto)]
 
-ghost use Rattle.std.specs.Prelude.{◌≡◌, ◌*◌, drop};
+ghost use Rattle.std.specs.Prelude.{◌≡◌, ◌*◌, length, drop};
 ghost use Rattle.laws.specs.Answer.{accepted};
 ghost use Rattle.machine.specs.State.{state};
 ghost use Rattle.runs.specs.Answers.{ran_of};
@@ -16,6 +16,28 @@ use machine::step;
 pub struct Ran {
     pub outcome: Result<(), Refusal>,
     pub executed: u64,
+}
+
+// The numbers of a lent file. Here and in `store` no slice is copied whole, for which an archive for C would need memmove.
+fn load(lent: &[u64]) -> [u64; 32]
+    requires { length lent.now ≡ 32 }
+    ensures { result ≡ lent.now }
+{
+    let mut file = [0; 32];
+    for k in 0..32 {
+        file[k] = lent[k];
+    }
+    file
+}
+
+// A file put back where it was lent.
+fn store(lent: &mut [u64], file: &[u64; 32])
+    requires { length lent.old ≡ 32 }
+    ensures { lent.new ≡ file.now }
+{
+    for k in 0..32 {
+        lent[k] = file[k];
+    }
 }
 
 // The pairs of the code in turn, while the budget lasts: how they ended, how many were executed, and the state that they
@@ -50,13 +72,12 @@ pub fn run(code: &[u16], start: u64, file: &mut [u64], budget: u64, mark: &mut b
             executed: 0,
         };
     }
-    let mut before = State {
-        file: [0; 32],
+    let before = State {
+        file: load(file),
         mark: *mark,
     };
-    before.file.copy_from_slice(file);
     let (outcome, executed, after) = go(&code[2 * start as usize..], before, budget);
-    file.copy_from_slice(&after.file);
+    store(file, &after.file);
     *mark = after.mark;
     Ran { outcome, executed }
 }

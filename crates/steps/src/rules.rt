@@ -47,11 +47,13 @@ const VALUES: [Values; 15] = [
 ];
 
 // The values of a kind; one past the table uses no byte.
+#[inline(always)]
 pub fn values_of(kind: u8) -> Values
     ensures { result ≡ limits (uses_of kind) }
 {
     if kind < 15 {
-        VALUES[kind as usize]
+        let rows = &VALUES;
+        rows[kind as usize]
     } else {
         CONSTANT
     }

@@ -24,7 +24,10 @@ pub fn translate(sheet: &[u8], filled: u16, out: &mut [u16]) -> Result<u64, Shee
             step: None,
         });
     }
-    let pairs = measure(sheet, Terms { filled })?;
+    let pairs = match measure(sheet, Terms { filled }) {
+        Ok(pairs) => pairs,
+        Err(e) => return Err(e),
+    };
     if ((out.len() / 2) as u64) < pairs {
         return Err(SheetError {
             cause: Refusal::ShortOutput,

@@ -19,26 +19,28 @@ use Rattle.effects.proofs.perform_unlike.Goals as goal
 target_is : (l m : Lengths) (t : Bool) → l ≡ m → l.d ≡ t → m.d ≡ t
 target_is l m t k e = ap (λ (l : Lengths). l.d) (sym k) ∙ e
 
--- the halves of a doubleword together have 64 bits
-below : (q : Bool) (low high : ℕ) → low < 2 ^ lane_bits q 32 → high < 2 ^ lane_bits q 32 → q ≡ false → low + high * 2 ^ 32 < 2 ^ 64
-below true low high l h e = wrong (sym e)
-below false low high l h e = omega arith
+-- a half of a doubleword has 32 bits
+below : (q : Bool) (x : ℕ) → x < 2 ^ lane_bits q 32 → q ≡ false → x < 2 ^ 32
+below true x h e = wrong (sym e)
+below false x h e = h
 
-together : (op : DoubleOp) (w : Width) (r : Numbers) (file : File) (l : Lengths) (low high : ℕ) → low ≡ half_after op w r file 0 → high ≡ half_after op w r file 1
-    → l ≡ lengths_of op → l.d ≡ false → low + high * 2 ^ 32 < 2 ^ 64
-together op w r file l low high e f k q = below (lengths_of op).d low high (rw e (half_below op w _ _ _)) (rw f (half_below op w _ _ _)) (target_is _ _ false k q)
+half-fits : (op : DoubleOp) (w : Width) (r : Numbers) (file : File) (l : Lengths) (h x : ℕ) → x ≡ half_after op w r file h
+    → l ≡ lengths_of op → l.d ≡ false → x < 2 ^ 32
+half-fits op w r file l h x e k q = below (lengths_of op).d x (rw e (half_below op w _ _ _)) (target_is _ _ false k q)
 
 pub overflow_mul-after : goal.overflow_mul-after
 overflow_mul-after c =
     let a = c.args in
-    let fit = together a.op a.w a.r a.before.file _ _ _ c.half_after-low.ensures c.half_after-high.ensures c.lengths_of-l.ensures c.if-l.false in
-    record { fits = omega arith }
+    let low = half-fits a.op a.w a.r a.before.file _ 0 _ c.half_after-low.ensures c.lengths_of-l.ensures c.if-l.false in
+    let high = half-fits a.op a.w a.r a.before.file _ 1 _ c.half_after-high.ensures c.lengths_of-l.ensures c.if-l.false in
+    record { fits = omega (arith, low, high) }
 
 pub overflow_add-after-else-l : goal.overflow_add-after-else-l
 overflow_add-after-else-l c =
     let a = c.args in
-    let fit = together a.op a.w a.r a.before.file _ _ _ c.half_after-low.ensures c.half_after-high.ensures c.lengths_of-l.ensures c.if-l.false in
-    record { fits = omega arith }
+    let low = half-fits a.op a.w a.r a.before.file _ 0 _ c.half_after-low.ensures c.lengths_of-l.ensures c.if-l.false in
+    let high = half-fits a.op a.w a.r a.before.file _ 1 _ c.half_after-high.ensures c.lengths_of-l.ensures c.if-l.false in
+    record { fits = omega (arith, low, high) }
 
 pub returns-then-l-clause-file : goal.returns-then-l-clause-file
 returns-then-l-clause-file c =

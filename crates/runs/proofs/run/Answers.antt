@@ -37,10 +37,10 @@ returns c =
     let lent = state a.file.now a.mark.now in
     let size = length-drop (2 * a.start) a.code.now in
     let whole : take (length a.code.now - 2 * a.start) rest ≡ rest = take_all _ rest (omega arith) in
-    let e : ran_of (record { outcome = c.go-outcome.result.0; executed = c.go-outcome.result.1 }) (state c.copy_from_slice-2.new.self c.go-outcome.result.2.mark) ≡ run_pairs rest a.budget lent =
-    rw c.copy_from_slice-2.ensures.after
-    (c.go-outcome.ensures ∙ ap (λ (l : List ℕ). run_pairs l a.budget (state c.copy_from_slice.new.self a.mark.now)) whole
-    ∙ ap (λ (f : File). run_pairs rest a.budget (state f a.mark.now)) c.copy_from_slice.ensures.after) in
+    let e : ran_of (record { outcome = c.go-outcome.result.0; executed = c.go-outcome.result.1 }) (state c.store.new.lent c.go-outcome.result.2.mark) ≡ run_pairs rest a.budget lent =
+    rw c.store.ensures
+    (c.go-outcome.ensures ∙ ap (λ (l : List ℕ). run_pairs l a.budget (state c.load.result a.mark.now)) whole
+    ∙ ap (λ (f : File). run_pairs rest a.budget (state f a.mark.now)) c.load.ensures) in
     record {
       answer = e ∙ sym (runs a.code.now a.start lent a.budget (omega arith) (omega arith) (omega arith));
       counted = subst (λ (r : Run). machine_steps r.executed rest lent ≡ accepted r.state) (sym e) (counted step_pair rest a.budget lent);
