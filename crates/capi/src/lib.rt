@@ -112,7 +112,8 @@ pub extern "C" fn bodlixo_translate(sheet: &[u8], filled: u16, out: &mut [u16], 
     ensures at { at.new ≡ count_or_place (translation_of (terms filled) sheet.now (length out.old)) }
     ensures out { out.new ≡ written_of (terms filled) sheet.now out.old }
 {
-    match translate(sheet, filled, out, at) {
+    let answer = translate(sheet, filled, out, at);
+    match answer {
         Ok(_) => 0,
         Err(e) => code_of(e.cause),
     }

@@ -14,6 +14,7 @@ use steps::faults::SheetError;
 
 // Translates a sheet into the output, where row r was filled beforehand if bit r of the list is set. A refusal writes
 // nothing.
+#[tactic(auto, using(crate::proofs::Translations::breaks, crate::proofs::Translations::kept))]
 pub fn translate(sheet: &[u8], filled: u16, out: &mut [u16]) -> Result<u64, SheetError>
     ensures answer { answer_at result ≡ translation_of (terms filled) sheet.now (length out.old) }
     ensures written { out.new ≡ written_of (terms filled) sheet.now out.old }
@@ -24,10 +25,7 @@ pub fn translate(sheet: &[u8], filled: u16, out: &mut [u16]) -> Result<u64, Shee
             step: None,
         });
     }
-    let pairs = match measure(sheet, Terms { filled }) {
-        Ok(pairs) => pairs,
-        Err(e) => return Err(e),
-    };
+    let pairs = measure(sheet, Terms { filled })?;
     if ((out.len() / 2) as u64) < pairs {
         return Err(SheetError {
             cause: Refusal::ShortOutput,
